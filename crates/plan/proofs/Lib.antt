@@ -1,0 +1,4 @@
+pub mod Seeing
+pub mod Filled
+pub mod Whole
+pub mod OneFile

@@ -1,0 +1,4 @@
+pub mod Layout
+pub mod Plans
+pub mod Reading
+pub mod Tables
