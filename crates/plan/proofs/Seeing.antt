@@ -2,7 +2,7 @@
 use Prim.Native.Nat.{ℕ, _+_, _<_, _≤_}
 use mathlib.Core.Path.{_≡_, refl, sym, ap, subst, _∙_}
 use mathlib.Core.Bool.{Bool, true, false, cond, _&&_}
-use mathlib.Core.List.{List, [], _∷_, _++_, append-nil}
+use mathlib.Core.List.{List, [], _∷_, _++_, append-assoc}
 use native.Mathlib.Omega.{arith}
 use lib.Dec.{ltb}
 use lib.ListN.{length, getD, take}
@@ -92,7 +92,9 @@ sights-push P l (d ∷ es) e = ap (and-then (sight P l d)) (sights-push P l es e
     front (Some x) = refl
 
 -- a turn of a loop over events: what is seen of the next one comes behind
-pub sights-more : (P : PlanModel) (l : ℕ) (es : List Event) (i : ℕ) (d : Event) (part : Option Event) (xs ys : List Event)
-    → i < length es → xs ≡ sights P l (take i es) → part ≡ sight P l (getD es i d) → ys ≡ xs ++ listOf part → ys ≡ sights P l (take (i + 1) es)
-sights-more P l es i d part xs ys h before here after =
-    after ∙ (λ k. before k ++ listOf (here k)) ∙ sym (ap (sights P l) (take-more es i d h) ∙ sights-push P l (take i es) (getD es i d))
+pub sights-more :
+    (P : PlanModel) (l : ℕ) (es : List Event) (i : ℕ) (d : Event) (part : Option Event) (old xs ys : List Event)
+    → i < length es → xs ≡ old ++ sights P l (take i es) → part ≡ sight P l (getD es i d) → ys ≡ xs ++ listOf part → ys ≡ old ++ sights P l (take (i + 1) es)
+sights-more P l es i d part old xs ys h before here after =
+    after ∙ (λ k. before k ++ listOf (here k)) ∙ append-assoc old (sights P l (take i es)) (listOf (sight P l (getD es i d)))
+    ∙ ap (λ zs. old ++ zs) (sym (ap (sights P l) (take-more es i d h) ∙ sights-push P l (take i es) (getD es i d)))

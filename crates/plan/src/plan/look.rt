@@ -1,6 +1,7 @@
 // What a plan says, and what a level sees under it.
 ghost use mathlib.Core.Path.{_≡_};
 ghost use mathlib.Core.Bool.{_&&_, cond};
+ghost use mathlib.Core.List.{_++_};
 ghost use Prim.Native.Nat.{ℕ, _<_};
 ghost use lib.Dec.{ltb};
 ghost use Rattle.std.specs.Of.Vec.{vec-items};
@@ -127,11 +128,24 @@ impl Plan {
         ensures { λ r. ⌜ Cases r (λ v. vec-items v ≡ sights (model (now (self .entry))) level (now (events .entry))) (λ e. e ≡ OutOfMemory) ⌝ }
     {
         let mut seen = Vec::new(heap);
+        self.look_at_all(level, events, &mut seen)?;
+        Ok(seen)
+    }
+
+    // Puts the sight of each event behind those that are there.
+    fn look_at_all(
+        &self,
+        level: Level,
+        events: &[Event],
+        seen: &mut Vec<Event>,
+    ) -> Result<(), Refusal>
+        ensures { λ r. ⌜ Cases r (λ _. vec-items (now (seen .exit)) ≡ vec-items (now (seen .entry)) ++ sights (model (now (self .entry))) level (now (events .entry))) (λ e. e ≡ OutOfMemory) ⌝ }
+    {
         for event in events {
             if let Some(part) = self.look(level, *event) {
                 seen.push(part)?;
             }
         }
-        Ok(seen)
+        Ok(())
     }
 }

@@ -1,0 +1,3 @@
+// Plan files that are refused or accepted, by number.
+#[cfg(test)]
+mod tests;
