@@ -1,3 +1,3 @@
-pub mod Asking
 pub mod Counting
+pub mod Outcomes
 pub mod Texts

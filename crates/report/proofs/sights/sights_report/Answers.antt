@@ -1,5 +1,5 @@
 use Rattle.std.proofs.shelf.Results.{cases-weaker}
-use Rattle.report.proofs.Asking.{report-refused, report-told}
+use Rattle.report.proofs.Outcomes.{report-refused, report-told}
 use Rattle.report.proofs.Counting.{counts-law}
 use Rattle.report.proofs.sights.sights_report.Needs as need
 
