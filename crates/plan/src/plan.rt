@@ -9,8 +9,8 @@ use cut::Cut;
 use event::Level;
 use order::table::OrderTable;
 
-pub mod look;
-pub mod read;
+mod look;
+mod read;
 
 // A plan: what may flow where. It has 1 to 8 levels with their order, up to 32 input channels and up
 // to 32 output channels with a level each, and a cut for each input channel at each level. No plan
