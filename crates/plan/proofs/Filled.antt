@@ -10,21 +10,21 @@ use lib.ListN.{length, getD, set}
 use lib.Seq.{getD-set-same, getD-set-other}
 use Rattle.std.proofs.shelf.Bits.{mul-le}
 
--- what holds of each place below i from `from` on, and of x, holds of each below i + 1 once x is written at i
-pub filled-more : {X : Type 0} (P : ℕ → X → Type 0) (xs : List X) (from i : ℕ) (x d : X) → from + i < length xs
-    → ((k : ℕ) → k < i → P k (getD xs (from + k) d)) → P i x → (k : ℕ) → k < i + 1 → P k (getD (set xs (from + i) x) (from + k) d)
-filled-more P xs from i x d l below here =
-    below-more (λ k. P k (getD (set xs (from + i) x) (from + k) d)) i
-    (λ k h. let ne : (from + k) ≢ (from + i) = omega arith in subst (λ y. P k y) (sym (getD-set-other xs (from + i) (from + k) x d ne)) (below k h))
-    (subst (λ y. P i y) (sym (getD-set-same xs (from + i) x d l)) here)
+-- what holds of the places of each k below i, and of x, holds of each below i + 1 once x is written at the place of i
+pub filled-more :
+    {X : Type 0} (P : ℕ → X → Type 0) (place : ℕ → ℕ) (xs : List X) (i : ℕ) (x d : X)
+    → place i < length xs → ((k : ℕ) → k < i → place k ≢ place i)
+    → ((k : ℕ) → k < i → P k (getD xs (place k) d)) → P i x → (k : ℕ) → k < i + 1 → P k (getD (set xs (place i) x) (place k) d)
+filled-more P place xs i x d within apart below here =
+    below-more (λ k. P k (getD (set xs (place i) x) (place k) d)) i
+    (λ k h. subst (λ y. P k y) (sym (getD-set-other xs (place i) (place k) x d (apart k h))) (below k h))
+    (subst (λ y. P i y) (sym (getD-set-same xs (place i) x d within)) here)
 
--- the same from place 0 on
-pub filled-first : {X : Type 0} (P : ℕ → X → Type 0) (xs : List X) (i : ℕ) (x d : X) → i < length xs
-    → ((k : ℕ) → k < i → P k (getD xs k d)) → P i x → (k : ℕ) → k < i + 1 → P k (getD (set xs i x) k d)
-filled-first P xs i x d l below here =
-    below-more (λ k. P k (getD (set xs i x) k d)) i
-    (λ k h. let ne : k ≢ i = omega arith in subst (λ y. P k y) (sym (getD-set-other xs i k x d ne)) (below k h))
-    (subst (λ y. P i y) (sym (getD-set-same xs i x d l)) here)
+-- the same where the place of k is k
+pub filled-first :
+    {X : Type 0} (P : ℕ → X → Type 0) (xs : List X) (i : ℕ) (x d : X)
+    → i < length xs → ((k : ℕ) → k < i → P k (getD xs k d)) → P i x → (k : ℕ) → k < i + 1 → P k (getD (set xs i x) k d)
+filled-first P xs i x d within = filled-more P (λ k. k) xs i x d within (λ k h. let ne : k ≢ i = omega arith in ne)
 
 -- one row more of n still fits into i rows
 pub row-fits : (c n i : ℕ) → c < i → c * n + n ≤ i * n

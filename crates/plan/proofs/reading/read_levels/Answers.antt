@@ -16,8 +16,8 @@ loop-k-again c =
       (
         below-more _ _ (c .loop-k .inv .1 .0) (omega arith),
         record {
-          here = filled-more (λ k x. x ≡ level-in (c .args .file .now) (c .args .at) k)
-              (c .loop-k .levels) (c .args .from) (c .loop-k .k) _ 0 (omega arith) (c .loop-k .inv .1 .1 .here) (c .read-field-level .ensures .is);
+          here = filled-more (λ k x. x ≡ level-in (c .args .file .now) (c .args .at) k) (λ k. c .args .from + k)
+              (c .loop-k .levels) (c .loop-k .k) _ 0 (omega arith) (λ k h. let ne : (c .args .from + k) ≢ at = omega arith in ne) (c .loop-k .inv .1 .1 .here) (c .read-field-level .ensures .is);
           before = λ k h. let ne : k ≢ at = omega arith in getD-set-other (c .loop-k .levels) at k _ 0 ne ∙ c .loop-k .inv .1 .1 .before k h;
         },
       ),
