@@ -1,6 +1,6 @@
 // Numbers in the bit fields of a file, most significant bit first.
 ghost use mathlib.Core.Path.{_≡_};
-ghost use Prim.Native.Nat.{ℕ, _+_, _^_, _<_, _≤_, min};
+ghost use Prim.Native.Nat.{_+_, _^_, _<_, _≤_, min};
 ghost use Rattle.bits.specs.Fields.{bit, field};
 
 // Bit `k` of those that begin at bit `at`: 1 or 0, and 0 past the file's end.

@@ -1,13 +1,13 @@
 -- The law of cuts.
-use Prim.Native.Nat.{ℕ, zero, suc, _+_, _-_, _*_, _/_, _%_, _<_, _≤_}
+use Prim.Native.Nat.{ℕ, zero, suc, _-_, _*_, _/_, _%_, _<_}
 use mathlib.Core.Path.{_≡_, refl, sym, ap, _∙_}
 use native.Mathlib.Omega.{arith}
 use native.Mathlib.Nat.{div-add-mod, mul-mod-right}
 use lib.Arith.{bin-ind}
 use lib.Bits.{bitAnd, and-shr, and-mod, and-self, and-le-l}
-use Rattle.std.specs.declared.option.Option.the-variants.{Some, None}
+use Rattle.std.specs.declared.option.Option.the-variants.{Some}
 use Rattle.cut.specs.declared.Cut.the-variants.{Hidden, Bare, Mask, Step}
-use Rattle.cut.specs.Cuts.{cut-value, Cut-law}
+use Rattle.cut.specs.Cuts.{Cut-law}
 
 by-digits : (a b : ℕ) → a / 2 ≡ b / 2 → a % 2 ≡ b % 2 → a ≡ b
 by-digits a b hi lo = omega arith

@@ -2,10 +2,10 @@
 use Prim.Native.Nat.{ℕ, _<_}
 use mathlib.Core.Path.{_≡_, refl, sym, _∙_}
 use mathlib.Core.Bool.{Bool, true, _&&_}
-use mathlib.Core.List.{List}
 use lib.Dec.{ltb}
 use Rattle.std.proofs.shelf.Tests.{and-parts, ltb-true, lt-ltb}
-use Rattle.order.specs.Orders.{among, Partial-order, Pair-ordered, Mutual, Chain}
+use Rattle.order.specs.Orders.{table-entry, among, Partial-order, Pair-ordered}
+use Rattle.order.specs.declared.table.OrderTable.{OrderTable}
 
 -- two levels of a relation among n levels are as the relation has them
 pub among-in : (n : ℕ) (r : ℕ → ℕ → Bool) (a b : ℕ) → a < n → b < n → among n r a b ≡ r a b
@@ -24,19 +24,22 @@ order-like n r s e h = record {
   transitive = λ a b c la lb lc p q. sym (e a c la lc) ∙ h .transitive a b c la lb lc (e a b la lb ∙ p) (e b c lb lc ∙ q);
 }
 
--- the three properties, one by one, make a partial order
-pub order-from : (n : ℕ) (r : ℕ → ℕ → Bool) → ((a : ℕ) → a < n → r a a ≡ true) → ((w : Mutual n r) → w .a ≡ w .b)
-    → ((w : Chain n r) → r (w .a) (w .c) ≡ true) → Partial-order n r
-order-from n r refl-of anti trans = record {
-  reflexive = refl-of;
-  antisymmetric = λ a b la lb p q. anti (record { a = a; b = b; a-in = la; b-in = lb; ab = p; ba = q });
-  transitive = λ a b c la lb lc p q. trans (record { a = a; b = b; c = c; a-in = la; b-in = lb; c-in = lc; ab = p; bc = q });
-}
-
--- and so does every pair
+-- what every pair of levels keeps makes a partial order
 pub order-from-pairs : (n : ℕ) (r : ℕ → ℕ → Bool) → ((a b : ℕ) → a < n → b < n → Pair-ordered n r a b) → Partial-order n r
 order-from-pairs n r h = record {
   reflexive = λ a l. h a a l l .itself refl;
   antisymmetric = λ a b la lb p q. h a b la lb .apart p q;
   transitive = λ a b c la lb lc p q. h a b la lb .onward c lc p q;
 }
+
+-- the properties of a table that is an order
+pub table-order : (t : OrderTable) → Partial-order (t .levels) (table-entry (t .rows))
+table-order t = record {
+  reflexive = t .reflexive;
+  antisymmetric = λ a b la lb p q. t .antisymmetric (record { a = a; b = b; a-in = la; b-in = lb; ab = p; ba = q });
+  transitive = λ a b c la lb lc p q. t .transitive (record { a = a; b = b; c = c; a-in = la; b-in = lb; c-in = lc; ab = p; bc = q });
+}
+
+pub table-order-among : (t : OrderTable) → Partial-order (t .levels) (among (t .levels) (table-entry (t .rows)))
+table-order-among t =
+    order-like (t .levels) (table-entry (t .rows)) _ (λ a b la lb. sym (among-in (t .levels) (table-entry (t .rows)) a b la lb)) (table-order t)

@@ -1,19 +1,18 @@
 -- A plan has at most one file.
-use Prim.Native.Nat.{ℕ, zero, suc, _+_, _-_, _*_, _/_, _%_, _^_, _<_, _≤_}
+use Prim.Native.Nat.{ℕ, zero, suc, _+_, _-_, _*_, _/_, _%_, _<_, _≤_}
 use mathlib.Core.Path.{_≡_, refl, sym, ap, subst, _∙_}
-use mathlib.Core.Bool.{Bool, true, false}
-use mathlib.Core.List.{List, []}
+use mathlib.Core.List.{List}
 use native.Mathlib.Decide.{decLt}
 use native.Mathlib.Nat.{div-add-mod', mod-lt}
 use native.Mathlib.Omega.{arith}
 use lib.Dec.{eqb}
-use lib.ListN.{length, getD}
+use lib.ListN.{length}
 use Rattle.std.proofs.shelf.Bits.{div-below}
 use Rattle.std.proofs.shelf.Lists.{same-lists, getD-default}
 use Rattle.bits.specs.Fields.{bit, field}
 use Rattle.bits.proofs.Laws.{field-lt, same-bits, same-file}
 use Rattle.event.specs.Questions.{All-yes}
-use Rattle.plan.specs.Layout.{file-levels, file-inputs, file-outputs, file-end, order-at, input-levels-at, output-levels-at, cuts-at, end-at, below-in, level-in, cut-of, cut-in, cut-place, Lawful-number, Lawful-in, plan-questions, Described, Bytes, One-file}
+use Rattle.plan.specs.Layout.{file-levels, file-inputs, file-outputs, order-at, input-levels-at, output-levels-at, cuts-at, end-at, below-in, level-in, cut-of, cut-in, cut-place, Lawful-number, plan-questions, Described, One-file}
 use Rattle.plan.specs.Plans.{PlanModel}
 use Rattle.plan.specs.Reading.{Table-lawful}
 use Rattle.cut.specs.declared.Cut.{Cut}

@@ -1,26 +1,24 @@
 -- The properties of every plan, and the laws of sight.
-use Prim.Native.Nat.{ℕ, _+_, _<_, _≤_}
-use mathlib.Core.Path.{_≡_, refl, sym, ap, subst, _∙_}
+use Prim.Native.Nat.{ℕ, _+_, _<_}
+use mathlib.Core.Path.{_≡_, refl, sym, ap, _∙_}
 use mathlib.Core.Bool.{Bool, true, false, cond, _&&_}
 use mathlib.Core.List.{List, [], _∷_, _++_, append-assoc}
-use native.Mathlib.Omega.{arith}
 use lib.Dec.{ltb}
 use lib.ListN.{length, getD, take}
 use Rattle.std.proofs.shelf.Lists.{take-more}
-use Rattle.std.proofs.shelf.Tests.{and-parts, and-from, ltb-true, lt-ltb}
+use Rattle.std.proofs.shelf.Tests.{and-parts, ltb-true, lt-ltb}
 use Rattle.std.specs.Options.{Cases}
 use Rattle.std.specs.shelf.Lists.{All}
 use Rattle.std.specs.Vec.{listOf}
 use Rattle.std.specs.declared.option.Option.{Option}
 use Rattle.std.specs.declared.option.Option.the-variants.{Some, None}
 use Rattle.event.specs.declared.Event.{Event}
-use Rattle.cut.specs.Cuts.{cut-value, lawful-cut, Left-by}
+use Rattle.cut.specs.Cuts.{cut-value, Left-by}
 use Rattle.order.specs.Orders.{table-entry}
 use Rattle.plan.specs.Plans.{PlanModel, model, Lawful-plan, carrying, sight, and-then, sights, Seen, Sight-laws}
-use Rattle.cut.specs.declared.Cut.{Cut}
 use Rattle.plan.specs.declared.plan.Plan.{Plan}
 use Rattle.cut.proofs.Cutting.{cut-law}
-use Rattle.order.proofs.Ordering.{among-in, among-inside, order-like, order-from}
+use Rattle.order.proofs.Ordering.{among-inside, table-order-among}
 
 -- no plan exists without its properties
 pub plan-lawful : (p : Plan) → Lawful-plan (model p)
@@ -33,8 +31,7 @@ plan-lawful p =
       few-inputs = p .fewinputs;
       some-output = p .someoutput;
       few-outputs = p .fewoutputs;
-      ordered = order-like (o .levels) (table-entry (o .rows)) _ (λ a b la lb. sym (among-in (o .levels) (table-entry (o .rows)) a b la lb))
-          (order-from (o .levels) (table-entry (o .rows)) (o .reflexive) (o .antisymmetric) (o .transitive));
+      ordered = table-order-among o;
       inside = λ a b h. among-inside (o .levels) (table-entry (o .rows)) a b h;
       release-level = p .releases;
       input-level-in = p .inputlevels;

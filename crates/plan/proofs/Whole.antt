@@ -1,5 +1,5 @@
 -- What the parts of a plan file say of the whole.
-use Prim.Native.Nat.{ℕ, zero, suc, _+_, _-_, _*_, _<_, _≤_}
+use Prim.Native.Nat.{ℕ, zero, suc, _+_, _-_, _<_, _≤_}
 use mathlib.Core.Path.{_≡_, refl, sym, ap, subst, _∙_}
 use mathlib.Core.Bool.{Bool, true}
 use mathlib.Core.Logic.{inl, inr}
@@ -9,18 +9,16 @@ use native.Mathlib.Decide.{decLt}
 use lib.ListN.{getD}
 use borrow.Author.Tests.{lt-ltb}
 use Rattle.bits.proofs.Laws.{field-lt}
-use Rattle.bits.specs.Fields.{field}
 use Rattle.event.specs.Questions.{All-yes, First-no}
 use Rattle.cut.specs.Cuts.{lawful-cut}
 use Rattle.plan.specs.Layout.{file-levels, file-inputs, file-outputs, file-below, input-levels-at, output-levels-at, cuts-at, below-in, level-in, cut-of, cut-in, cut-place, Lawful-number, Levels-lawful, Cuts-lawful, plan-questions, Described}
 use Rattle.order.specs.Orders.{table-entry, among, Partial-order}
-use Rattle.plan.specs.Plans.{PlanModel}
 use Rattle.plan.specs.Reading.{Sized, Order-read, Levels-below, Levels-read, Table-lawful, Table-read}
 use Rattle.plan.specs.Tables.{cut-entry, Entry}
 use Rattle.cut.specs.declared.Cut.{Cut}
 use Rattle.order.specs.declared.table.OrderTable.{OrderTable}
 use Rattle.plan.specs.declared.sizes.Sizes.{Sizes}
-use Rattle.order.proofs.Ordering.{among-in, order-like, order-from}
+use Rattle.order.proofs.Ordering.{among-in, order-like, table-order}
 
 -- a cut with a number that its kind allows is one that a plan may have
 lawful-of : (k v : ℕ) → k < 4 → Lawful-number k v → lawful-cut (cut-of k v) ≡ true
@@ -49,7 +47,7 @@ module _ (f : List ℕ) (s : Sizes) (z : Sized f s) where
       subst (λ n. Partial-order n (below-in f n)) (el ∙ z .levels)
       (order-like (t .levels) (table-entry (t .rows)) (below-in f (t .levels))
       (λ a b la lb. ap (λ r. table-entry r a b) er ∙ read a b (omega arith) (omega arith) ∙ ap (λ n. below-in f n a b) (sym el))
-      (order-from (t .levels) (table-entry (t .rows)) (t .reflexive) (t .antisymmetric) (t .transitive)))
+      (table-order t))
 
   -- the levels of the channels
   pub levels-of-file : Levels-below f (input-levels-at (s .levels)) (s .inputs - s .levels) (s .levels)

@@ -1,6 +1,6 @@
 // The sizes of a plan, and where the parts of its file begin.
 ghost use mathlib.Core.Path.{_≡_};
-ghost use Prim.Native.Nat.{ℕ, _≤_};
+ghost use Prim.Native.Nat.{_≤_};
 ghost use Rattle.plan.specs.Layout.{input-levels-at, output-levels-at, cuts-at, end-at};
 
 // How many levels, input channels and output channels a plan has.

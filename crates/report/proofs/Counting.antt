@@ -11,7 +11,7 @@ use Rattle.std.specs.shelf.Lists.{kept-by}
 use Rattle.std.specs.declared.option.Option.{Option}
 use Rattle.std.specs.declared.option.Option.the-variants.{Some, None}
 use Rattle.event.specs.declared.Event.{Event}
-use Rattle.plan.specs.Plans.{PlanModel, sees-whole, sight, and-then, sights}
+use Rattle.plan.specs.Plans.{PlanModel, sees-whole, sight, and-then}
 use Rattle.report.specs.Reports.{whole-count, cut-count, absent-count, Counts-law}
 use Rattle.report.specs.declared.tally.Tally.{Tally}
 

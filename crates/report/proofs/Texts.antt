@@ -1,7 +1,7 @@
 -- Texts and lists that are put together piece by piece.
 use Prim.Native.Nat.{ℕ, _+_, _<_}
 use mathlib.Core.Path.{_≡_, sym, ap, _∙_}
-use mathlib.Core.List.{List, [], _∷_, _++_}
+use mathlib.Core.List.{List, [], _++_}
 use lib.ListN.{length, getD, take}
 use Rattle.std.proofs.shelf.Lists.{joined-more, take-more}
 use Rattle.std.specs.Joined.{joined}

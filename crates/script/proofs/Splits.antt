@@ -5,7 +5,7 @@ use mathlib.Core.Bool.{true, false}
 use mathlib.Core.List.{List, [], _∷_, _++_, append-nil}
 use native.Mathlib.Nat.{add-zero}
 use native.Mathlib.Omega.{arith}
-use lib.ListN.{length, getD, take, drop, length-take, length-drop, length-append, take-append-drop}
+use lib.ListN.{length, getD, drop, length-take, length-drop, length-append, take-append-drop}
 use denote.Ref.{RefT, now}
 use Rattle.std.specs.Text.{asciiDigit, In}
 use Rattle.std.specs.Written.{decimal}

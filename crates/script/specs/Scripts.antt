@@ -1,8 +1,8 @@
 -- The lines of a script.
-use Prim.Native.Nat.{ℕ, _≤_, _<_}
+use Prim.Native.Nat.{ℕ, _≤_}
 use mathlib.Core.Path.{_≡_}
 use mathlib.Core.List.{List, [], _∷_, _++_}
-use lib.ListN.{length, getD}
+use lib.ListN.{length}
 use Rattle.std.specs.declared.result.Result.{Result}
 use Rattle.event.specs.Questions.{Question}
 use Rattle.event.specs.declared.Refusal.{Refusal}

@@ -1,6 +1,5 @@
 // The plan that one begins with, and the plan of a file.
 ghost use mathlib.Core.Path.{_≡_};
-ghost use Prim.Native.Nat.{ℕ};
 ghost use Rattle.std.specs.Results.{Cases};
 ghost use Rattle.event.specs.Questions.{All-yes, First-no};
 ghost use Rattle.event.specs.Refusals.{refusal-number};

@@ -1,4 +1,3 @@
-use Prim.Native.Nat.{ℕ, _<_}
 use borrow.Author.Count.{below-more}
 use mathlib.Core.Path.{refl}
 use native.Mathlib.Omega.{arith}

@@ -1,7 +1,7 @@
 use Prim.Native.Nat.{ℕ, _+_, _*_}
 use borrow.Author.Count.{below-more}
 use mathlib.Core.Path.{_≡_, subst, sym, ap, _∙_}
-use mathlib.Core.List.{List, []}
+use mathlib.Core.List.{[]}
 use native.Mathlib.Omega.{arith}
 use lib.ListN.{length-set}
 use Rattle.std.proofs.shelf.Bits.{mul-le}
