@@ -12,28 +12,31 @@ use Rattle.plan.specs.Plans.{PlanModel}
 use Rattle.cut.specs.declared.Cut.{Cut}
 use Rattle.cut.specs.declared.Cut.the-variants.{Hidden, Bare, Mask, Step}
 
--- the numbers of levels, input channels and output channels: 3, 5 and 5 bits, each less one
+-- the number of levels: one more than 3 bits from bit 0 on write
 abbrev pub file-levels : List ℕ → ℕ
 file-levels f = field f 0 3 + 1
 
+-- the number of input channels: one more than 5 bits from bit 3 on write
 abbrev pub file-inputs : List ℕ → ℕ
 file-inputs f = field f 3 5 + 1
 
+-- the number of output channels: one more than 5 bits from bit 8 on write
 abbrev pub file-outputs : List ℕ → ℕ
 file-outputs f = field f 8 5 + 1
 
--- where the parts after the 16 bits of sizes begin, for n levels, i inputs and o outputs: the
--- order's n rows of n bits, a level of 3 bits for each input channel from n on and for each output
--- channel, and a cut of 18 bits for each input channel at each level
+-- where the order begins, after the 16 bits of sizes: for n levels, n rows of n bits
 abbrev pub order-at : ℕ
 order-at = 16
 
+-- where the levels of the input channels from n on begin, behind the order: 3 bits each
 abbrev pub input-levels-at : ℕ → ℕ
 input-levels-at n = order-at + n * n
 
+-- where the levels of the output channels begin, for i input channels: 3 bits each
 abbrev pub output-levels-at : ℕ → ℕ → ℕ
 output-levels-at n i = input-levels-at n + 3 * (i - n)
 
+-- where the cuts begin, for o output channels: 18 bits for each input channel at each level
 abbrev pub cuts-at : ℕ → ℕ → ℕ → ℕ
 cuts-at n i o = output-levels-at n i + 3 * o
 
@@ -58,33 +61,39 @@ pub record Lawful-number (kind number : ℕ) : Type 0 where
 abbrev pub cut-in : List ℕ → ℕ → Cut
 cut-in f at = cut-of (field f at 2) (field f (at + 2) 16)
 
+-- the cut whose bits begin at `at` has a number that its kind allows
 abbrev pub Lawful-in : List ℕ → ℕ → Type 0
 Lawful-in f at = Lawful-number (field f at 2) (field f (at + 2) 16)
 
--- what a file of n levels says of levels a and b, the level of an input channel from n on, and,
--- given where they begin, the level of an output channel and the cut of an input channel at a level
+-- whether a file of n levels says that a is below b: row a, column b of the order
 abbrev pub below-in : List ℕ → ℕ → ℕ → ℕ → Bool
 below-in f n a b = eqb (field f (order-at + (a * n + b)) 1) 1
 
+-- the k-th of the levels that begin at bit `at`
 abbrev pub level-in : List ℕ → ℕ → ℕ → ℕ
 level-in f at k = field f (at + 3 * k) 3
 
+-- where the cut of channel c at level l begins, of n levels and cuts from bit `at` on
 abbrev pub cut-place : ℕ → ℕ → ℕ → ℕ → ℕ
 cut-place at n c l = at + 18 * (c * n + l)
 
--- the parts of a file with the sizes that it says itself
+-- whether a is below b, by the file's own number of levels
 abbrev pub file-below : List ℕ → ℕ → ℕ → Bool
 file-below f = below-in f (file-levels f)
 
+-- the level of an input channel that is no release channel
 abbrev pub file-input-level : List ℕ → ℕ → ℕ
 file-input-level f c = level-in f (input-levels-at (file-levels f)) (c - file-levels f)
 
+-- the level of an output channel
 abbrev pub file-output-level : List ℕ → ℕ → ℕ
 file-output-level f c = level-in f (output-levels-at (file-levels f) (file-inputs f)) c
 
+-- where the cut of channel c at level l begins, by the file's own sizes
 abbrev pub file-cut-place : List ℕ → ℕ → ℕ → ℕ
 file-cut-place f c l = cut-place (cuts-at (file-levels f) (file-inputs f) (file-outputs f)) (file-levels f) c l
 
+-- where the padding begins, by the file's own sizes
 abbrev pub file-end : List ℕ → ℕ
 file-end f = end-at (file-levels f) (file-inputs f) (file-outputs f)
 

@@ -41,16 +41,18 @@ pub record Levels-read (f : List ℕ) (at from count : ℕ) (old levels : List �
   pub here : (k : ℕ) → k < count → getD levels (from + k) 0 ≡ level-in f at k
   pub before : (k : ℕ) → k < from → getD levels k 0 ≡ getD old k 0
 
--- the cuts of a channel at n levels, from bit `at` on
+-- the cuts of a channel at n levels, from bit `at` on, have numbers that their kinds allow
 abbrev pub Row-lawful : List ℕ → ℕ → ℕ → Type 0
 Row-lawful f at n = (l : ℕ) → l < n → Lawful-in f (at + 18 * l)
 
+-- and stand in a row
 abbrev pub Row-read : List ℕ → ℕ → ℕ → List Cut → Type 0
 Row-read f at n row = (l : ℕ) → l < n → getD row l Hidden ≡ cut-in f (at + 18 * l)
 
--- the cuts of i channels at n levels, from bit `at` on
+-- the cuts of i channels at n levels, from bit `at` on, have numbers that their kinds allow
 abbrev pub Table-lawful : List ℕ → ℕ → ℕ → ℕ → Type 0
 Table-lawful f at n i = (c l : ℕ) → c < i → l < n → Lawful-in f (cut-place at n c l)
 
+-- and stand in a table
 abbrev pub Table-read : List ℕ → ℕ → ℕ → ℕ → List (List Cut) → Type 0
 Table-read f at n i cuts = (c l : ℕ) → c < i → l < n → cut-entry cuts c l ≡ cut-in f (cut-place at n c l)

@@ -22,13 +22,15 @@ sight-line P l s =
     codes "  channel " ++ (decimal (s .channel) ++ (codes ": " ++ (decimal (s .value)
     ++ (cond (sees-whole P l (s .channel)) [] (codes " (cut)") ++ (10 ∷ [])))))
 
--- how many of some events level l sees whole, cut, and not at all
+-- how many of some events level l sees whole
 abbrev pub whole-count : PlanModel → ℕ → List Event → ℕ
 whole-count P l es = length (kept-by (λ e. isSome (sight P l e) && sees-whole P l (e .channel)) es)
 
+-- how many it sees cut
 abbrev pub cut-count : PlanModel → ℕ → List Event → ℕ
 cut-count P l es = length (kept-by (λ e. isSome (sight P l e) && not (sees-whole P l (e .channel))) es)
 
+-- how many it does not see at all
 abbrev pub absent-count : PlanModel → ℕ → List Event → ℕ
 absent-count P l es = length (kept-by (λ e. not (isSome (sight P l e))) es)
 

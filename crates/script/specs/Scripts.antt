@@ -24,8 +24,8 @@ abbrev pub No-feed : List ℕ → Type 0
 No-feed [] = Unit {0}
 No-feed (b ∷ bs) = (b ≡ 10 → ⊥) × No-feed bs
 
--- the answers to the lines of a script: pieces without a line feed, put together again, are the
--- script; an empty piece is no line, and each other one has its answer, in order
+-- answers to pieces of a text: an empty piece is no line, and each other one is without a line feed
+-- and has its answer, in order
 abbrev pub Answers : List (List ℕ) → List (Result Command Refusal) → Type 0
 Answers [] [] = Unit {0}
 Answers [] (r ∷ rs) = ⊥
@@ -33,5 +33,6 @@ Answers ([] ∷ ps) rs = Answers ps rs
 Answers ((b ∷ bs) ∷ ps) [] = ⊥
 Answers ((b ∷ bs) ∷ ps) (r ∷ rs) = No-feed (b ∷ bs) × Line-reads (b ∷ bs) r × Answers ps rs
 
+-- the answers to the lines of a script: those to the pieces that, put together again, are the script
 abbrev pub Script-reads : List ℕ → List (Result Command Refusal) → Type 0
 Script-reads script rs = (pieces : List (List ℕ)) × (with-feeds pieces ≡ script) × Answers pieces rs
