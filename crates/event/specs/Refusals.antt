@@ -1,5 +1,6 @@
 -- The number of each refusal.
 use Prim.Native.Nat.{ℕ}
+use mathlib.Core.Path.{_≡_}
 use Rattle.event.specs.declared.Refusal.{Refusal}
 use Rattle.event.specs.declared.Refusal.the-variants.{PlanTooShort, TooFewInputs, WrongPlanLength, SpareBitSet, NoPartialOrder, LevelTooHigh, UnlawfulCut, UnreadableLine, ScriptTooLong, OutOfMemory}
 
@@ -16,3 +17,7 @@ refusal-number UnlawfulCut = 7
 refusal-number UnreadableLine = 15
 refusal-number ScriptTooLong = 16
 refusal-number OutOfMemory = 99
+
+-- no two refusals have the same number, so that the number says which it is
+abbrev pub Distinct-numbers : Type 0
+Distinct-numbers = (e f : Refusal) → refusal-number e ≡ refusal-number f → e ≡ f

@@ -1,6 +1,6 @@
 // What every layer of the host speaks of: events, outputs, levels and refusals.
 ghost use mathlib.Core.Path.{_≡_};
-ghost use Rattle.event.specs.Refusals.{refusal-number};
+ghost use Rattle.event.specs.Refusals.{refusal-number, Distinct-numbers};
 
 mod memory;
 
@@ -53,19 +53,27 @@ pub enum Refusal {
 impl Refusal {
     // The number under which docs/ lists the refusal, and which a program prints.
     pub fn number(self) -> u16
-        ensures { λ r. ⌜ r ≡ refusal-number self ⌝ }
+        ensures is { λ r. ⌜ r ≡ refusal-number self ⌝ }
+        ensures distinct { λ _. ⌜ Distinct-numbers ⌝ }
     {
-        match self {
-            Refusal::PlanTooShort => 1,
-            Refusal::TooFewInputs => 2,
-            Refusal::WrongPlanLength => 3,
-            Refusal::SpareBitSet => 4,
-            Refusal::NoPartialOrder => 5,
-            Refusal::LevelTooHigh => 6,
-            Refusal::UnlawfulCut => 7,
-            Refusal::UnreadableLine => 15,
-            Refusal::ScriptTooLong => 16,
-            Refusal::OutOfMemory => 99,
-        }
+        number_of(self)
+    }
+}
+
+// The number of a refusal.
+fn number_of(refusal: Refusal) -> u16
+    ensures { λ r. ⌜ r ≡ refusal-number refusal ⌝ }
+{
+    match refusal {
+        Refusal::PlanTooShort => 1,
+        Refusal::TooFewInputs => 2,
+        Refusal::WrongPlanLength => 3,
+        Refusal::SpareBitSet => 4,
+        Refusal::NoPartialOrder => 5,
+        Refusal::LevelTooHigh => 6,
+        Refusal::UnlawfulCut => 7,
+        Refusal::UnreadableLine => 15,
+        Refusal::ScriptTooLong => 16,
+        Refusal::OutOfMemory => 99,
     }
 }

@@ -5,12 +5,19 @@ use mathlib.Core.Bool.{Bool, false}
 use mathlib.Core.List.{List}
 use lib.Dec.{eqb}
 use lib.ListN.{length, getD}
+use Rattle.std.specs.Results.{Cases}
+use Rattle.std.specs.declared.result.Result.{Result}
 use Rattle.bits.specs.Fields.{field}
-use Rattle.plan.specs.Layout.{file-levels, file-inputs, file-outputs, file-end, below-in, level-in, cut-in, cut-place, Lawful-in}
+use Rattle.event.specs.Questions.{All-yes, First-no}
+use Rattle.event.specs.Refusals.{refusal-number}
+use Rattle.event.specs.declared.Refusal.{Refusal}
+use Rattle.plan.specs.Layout.{file-levels, file-inputs, file-outputs, file-end, below-in, level-in, cut-in, cut-place, Lawful-in, plan-questions, Described}
+use Rattle.plan.specs.Plans.{model}
 use Rattle.order.specs.Orders.{table-entry}
 use Rattle.plan.specs.Tables.{cut-entry}
 use Rattle.cut.specs.declared.Cut.{Cut}
 use Rattle.cut.specs.declared.Cut.the-variants.{Hidden}
+use Rattle.plan.specs.declared.plan.Plan.{Plan}
 use Rattle.plan.specs.declared.sizes.Sizes.{Sizes}
 
 -- s are the sizes that the file f says, and the first four questions are answered yes
@@ -56,3 +63,15 @@ Table-lawful f at n i = (c l : ℕ) → c < i → l < n → Lawful-in f (cut-pla
 -- and stand in a table
 abbrev pub Table-read : List ℕ → ℕ → ℕ → ℕ → List (List Cut) → Type 0
 Table-read f at n i cuts = (c l : ℕ) → c < i → l < n → cut-entry cuts c l ≡ cut-in f (cut-place at n c l)
+
+-- the plan of a file, or the number of the first question that is answered no
+abbrev pub Plan-of : List ℕ → Result Plan Refusal → Type 0
+Plan-of f r = Cases r (λ p. All-yes (plan-questions f) × Described f (model p)) (λ e. First-no (plan-questions f) (refusal-number e))
+
+-- what reading a file makes of a plan: the plan that the file describes; or, by the number of the
+-- first question that is answered no, it stays as it was
+abbrev pub Plan-replaced : List ℕ → Plan → Result (Unit {0}) Refusal → Plan → Type 0
+Plan-replaced f before r after =
+    Cases r
+    (λ _. All-yes (plan-questions f) × Described f (model after))
+    (λ e. First-no (plan-questions f) (refusal-number e) × (after ≡ before))

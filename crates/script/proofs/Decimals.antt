@@ -53,7 +53,7 @@ module _ (v : ℕ) (small : v ≤ 65535) where
   pub decimal-digits : allDigits (decimal v) ≡ true
   decimal-digits = digits-decimal rows v (omega arith)
 
-  reading-decimal : reading (decimal v) ≡ v
+  pub reading-decimal : reading (decimal v) ≡ v
   reading-decimal = value-decimal rows v (omega arith)
 
   decimal-short : length (decimal v) ≤ 5

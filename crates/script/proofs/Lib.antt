@@ -1,4 +1,5 @@
 pub mod Decimals
+pub mod OneReading
 pub mod Pieces
 pub mod Rows
 pub mod Splits

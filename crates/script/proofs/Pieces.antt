@@ -14,7 +14,8 @@ use Rattle.script.specs.Ends.{First-line, Answered}
 use Rattle.script.specs.Scripts.{with-feeds, No-feed, Answers, Script-reads}
 use Rattle.script.specs.declared.command.Command.{Command}
 
-abbrev Answer : Type 0
+-- the answer to a line
+abbrev pub Answer : Type 0
 Answer = Result Command Refusal
 
 -- the answers so far, with any answers to the rest, are answers to the script
@@ -34,7 +35,7 @@ no-feed-take [] (suc n) h = tt
 no-feed-take (b ∷ text) (suc n) h = (h 0 (omega arith), no-feed-take text n (λ k l. h (suc k) (omega arith)))
 
 -- pieces of an empty text have no answers
-no-answers : (ps : List (List ℕ)) (rs : List Answer) → with-feeds ps ≡ [] → Answers ps rs → Answers [] rs
+pub no-answers : (ps : List (List ℕ)) (rs : List Answer) → with-feeds ps ≡ [] → Answers ps rs → Answers [] rs
 no-answers [] rs e h = h
 no-answers ([] ∷ []) rs e h = h
 no-answers ((b ∷ bs) ∷ []) rs e h = absurd (omega (arith, ap length e))

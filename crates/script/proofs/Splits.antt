@@ -25,7 +25,7 @@ use Rattle.script.proofs.Decimals.{digit-in, decimal-digits}
 
 -- two rows of digits, each before what does not begin with a digit: where the whole is the same, so are
 -- the parts
-same-row : (ds es s t : List ℕ) → allDigits ds ≡ true → allDigits es ≡ true → asciiDigit (getD s 0 0) ≡ false → asciiDigit (getD t 0 0) ≡ false → ds ++ s ≡ es ++ t → (ds ≡ es) × (s ≡ t)
+pub same-row : (ds es s t : List ℕ) → allDigits ds ≡ true → allDigits es ≡ true → asciiDigit (getD s 0 0) ≡ false → asciiDigit (getD t 0 0) ≡ false → ds ++ s ≡ es ++ t → (ds ≡ es) × (s ≡ t)
 same-row [] [] s t p q u v h = (refl, h)
 same-row [] (e ∷ es) s t p q u v h =
     absurd (both-ways (asciiDigit e) (sym (ap (λ l. asciiDigit (getD l 0 0)) h) ∙ u) (and-parts (asciiDigit e) (allDigits es) q .0))

@@ -26,6 +26,10 @@ Small (Collect level) = level ≤ 65535
 abbrev pub Reads : List ℕ → Command → Type 0
 Reads line c = Small c × (line ≡ written c)
 
+-- a line reads as at most one command
+abbrev pub One-command : Type 0
+One-command = (line : List ℕ) (c d : Command) → Reads line c → Reads line d → c ≡ d
+
 -- what is asked of a line
 abbrev pub line-questions : List ℕ → List Question
 line-questions line = record { number = 15; asks = (c : Command) × Reads line c } ∷ []

@@ -3,7 +3,7 @@ ghost use mathlib.Core.List.{List};
 ghost use Prim.Native.Nat.{ℕ};
 ghost use lib.ListN.{drop};
 ghost use Rattle.std.specs.Options.{Cases as BySome};
-ghost use Rattle.script.specs.Commands.{Reads, Line-reads};
+ghost use Rattle.script.specs.Commands.{Reads, Line-reads, One-command};
 ghost use Rattle.script.specs.Fields.{Letter-then, Event-fields, Last-number};
 use crate::command::Command;
 use crate::number::last_number;
@@ -53,6 +53,14 @@ fn command_of(line: &[u8]) -> Option<Command>
 
 // The command that a line is, or the refusal.
 pub fn read_line(line: &[u8]) -> Result<Command, Refusal>
+    ensures reads { λ r. ⌜ Line-reads (now (line .entry)) r ⌝ }
+    ensures one { λ _. ⌜ One-command ⌝ }
+{
+    answer_to(line)
+}
+
+// The command that a line is, or the refusal.
+fn answer_to(line: &[u8]) -> Result<Command, Refusal>
     ensures { λ r. ⌜ Line-reads (now (line .entry)) r ⌝ }
 {
     command_of(line).ok_or(Refusal::UnreadableLine)

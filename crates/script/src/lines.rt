@@ -1,15 +1,12 @@
 // The lines of a script.
-ghost use mathlib.Core.Logic.{_⊎_};
 ghost use mathlib.Core.Path.{_≡_};
 ghost use Prim.Native.Nat.{_+_};
 ghost use lib.ListN.{drop};
 ghost use Rattle.std.specs.Of.Vec.{vec-items};
 ghost use Rattle.std.specs.Results.{Cases};
-ghost use Rattle.event.specs.Questions.{All-yes, First-no};
-ghost use Rattle.event.specs.Refusals.{refusal-number};
 ghost use Rattle.event.specs.declared.Refusal.the-variants.{OutOfMemory};
 ghost use Rattle.script.specs.Ends.{First-line, Answered};
-ghost use Rattle.script.specs.Scripts.{script-questions, Script-reads};
+ghost use Rattle.script.specs.Scripts.{Script-reads, Script-read, Script-refused, One-reading};
 use crate::command::Command;
 use crate::line::read_line;
 use event::Refusal;
@@ -68,7 +65,15 @@ fn read_lines(heap: Global, script: &[u8]) -> Result<Vec<Result<Command, Refusal
 
 // The answers to the lines of a script, in their order; an empty line has none.
 pub fn read_script(heap: Global, script: &[u8]) -> Result<Vec<Result<Command, Refusal>>, Refusal>
-    ensures { λ r. ⌜ Cases r (λ v. All-yes (script-questions (now (script .entry))) × Script-reads (now (script .entry)) (vec-items v)) (λ e. First-no (script-questions (now (script .entry))) (refusal-number e) ⊎ (All-yes (script-questions (now (script .entry))) × (e ≡ OutOfMemory))) ⌝ }
+    ensures reads { λ r. ⌜ Cases r (λ v. Script-read (now (script .entry)) (vec-items v)) (λ e. Script-refused (now (script .entry)) e) ⌝ }
+    ensures one { λ _. ⌜ One-reading ⌝ }
+{
+    read_limited(heap, script)
+}
+
+// The answers to the lines of a script that is not too long.
+fn read_limited(heap: Global, script: &[u8]) -> Result<Vec<Result<Command, Refusal>>, Refusal>
+    ensures { λ r. ⌜ Cases r (λ v. Script-read (now (script .entry)) (vec-items v)) (λ e. Script-refused (now (script .entry)) e) ⌝ }
 {
     if script.len() > MOST_BYTES {
         return Err(Refusal::ScriptTooLong);

@@ -1,11 +1,7 @@
 // The plan that one begins with, and the plan of a file.
-ghost use mathlib.Core.Path.{_≡_};
-ghost use Rattle.std.specs.Results.{Cases};
-ghost use Rattle.event.specs.Questions.{All-yes, First-no};
-ghost use Rattle.event.specs.Refusals.{refusal-number};
-ghost use Rattle.plan.specs.Layout.{plan-questions, Described, One-file};
+ghost use Rattle.plan.specs.Layout.{One-file};
 ghost use Rattle.plan.specs.Plans.{model, First-plan};
-ghost use Rattle.plan.specs.Reading.{Sized};
+ghost use Rattle.plan.specs.Reading.{Sized, Plan-of, Plan-replaced};
 use crate::plan::Plan;
 use crate::reading::read_cuts;
 use crate::reading::read_levels;
@@ -35,7 +31,7 @@ impl Plan {
     // Replaces the plan by the one that the file describes, or refuses by the first question that is
     // answered no and leaves the plan as it was.
     pub fn read(&mut self, file: &[u8]) -> Result<(), Refusal>
-        ensures reads { λ r. ⌜ Cases r (λ _. All-yes (plan-questions (now (file .entry))) × Described (now (file .entry)) (model (now (self .exit)))) (λ e. First-no (plan-questions (now (file .entry))) (refusal-number e) × (now (self .exit) ≡ now (self .entry))) ⌝ }
+        ensures reads { λ r. ⌜ Plan-replaced (now (file .entry)) (now (self .entry)) r (now (self .exit)) ⌝ }
         ensures onefile { λ _. ⌜ One-file ⌝ }
     {
         self.replace(file)
@@ -43,7 +39,7 @@ impl Plan {
 
     // Takes over the plan of the file once every question is answered yes.
     fn replace(&mut self, file: &[u8]) -> Result<(), Refusal>
-        ensures { λ r. ⌜ Cases r (λ _. All-yes (plan-questions (now (file .entry))) × Described (now (file .entry)) (model (now (self .exit)))) (λ e. First-no (plan-questions (now (file .entry))) (refusal-number e) × (now (self .exit) ≡ now (self .entry))) ⌝ }
+        ensures { λ r. ⌜ Plan-replaced (now (file .entry)) (now (self .entry)) r (now (self .exit)) ⌝ }
     {
         match read_plan(file) {
             Ok(plan) => {
@@ -57,7 +53,7 @@ impl Plan {
 
 // The plan of a file, or the refusal by the first question that is answered no.
 fn read_plan(file: &[u8]) -> Result<Plan, Refusal>
-    ensures { λ r. ⌜ Cases r (λ p. All-yes (plan-questions (now (file .entry))) × Described (now (file .entry)) (model p)) (λ e. First-no (plan-questions (now (file .entry))) (refusal-number e)) ⌝ }
+    ensures { λ r. ⌜ Plan-of (now (file .entry)) r ⌝ }
 {
     match read_sizes(file) {
         Ok(sizes) => read_parts(file, sizes),
@@ -68,7 +64,7 @@ fn read_plan(file: &[u8]) -> Result<Plan, Refusal>
 // The plan of a file whose sizes are known, or the refusal by the last three questions.
 fn read_parts(file: &[u8], sizes: Sizes) -> Result<Plan, Refusal>
     requires { ⌜ Sized (now file) sizes ⌝ }
-    ensures { λ r. ⌜ Cases r (λ p. All-yes (plan-questions (now (file .entry))) × Described (now (file .entry)) (model p)) (λ e. First-no (plan-questions (now (file .entry))) (refusal-number e)) ⌝ }
+    ensures { λ r. ⌜ Plan-of (now (file .entry)) r ⌝ }
 {
     let n = sizes.levels;
     let Some(order) = OrderTable::new(n, read_order(file, n)) else {
