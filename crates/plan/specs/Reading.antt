@@ -1,4 +1,4 @@
--- What the readers of the parts of a plan file promise.
+-- What the readers of a plan file and of its parts promise.
 use Prim.Native.Nat.{ℕ, _+_, _-_, _*_, _/_, _<_, _≤_}
 use mathlib.Core.Path.{_≡_}
 use mathlib.Core.Bool.{Bool, false}
