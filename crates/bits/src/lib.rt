@@ -1,4 +1,6 @@
 // Numbers in the bit fields of a file, most significant bit first.
+#![tactic(auto)]
+
 ghost use Rattle.std.specs.Prelude.{◌≡◌, ◌+◌, ◌^◌, ◌<◌, ◌≤◌, min};
 ghost use Rattle.bits.specs.Fields.{bit, field};
 

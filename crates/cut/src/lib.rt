@@ -1,4 +1,6 @@
 // Cuts, which say what a level is shown of a channel that it may not see whole.
+#![tactic(auto)]
+
 ghost use Rattle.std.specs.Prelude.{◌≡◌, ◌-◌, ◌%◌};
 ghost use Rattle.event.specs.Figures.{AllComeOut};
 ghost use Rattle.cut.specs.Cuts.{cut_value, CutLaw, cut_figures};

@@ -1,4 +1,6 @@
 // What every layer of the host speaks of: events, outputs, levels and refusals.
+#![tactic(auto)]
+
 ghost use Rattle.std.specs.Prelude.{◌≡◌};
 ghost use Rattle.event.specs.Refusals.{refusal_number, DistinctNumbers};
 

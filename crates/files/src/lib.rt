@@ -1,4 +1,6 @@
 // What the programs read: files in the folder where they run, and standard input.
+#![tactic(auto)]
+
 ghost use Rattle.std.specs.Prelude.{◌≡◌, [], Err, MatchResult, ◌≢◌};
 ghost use Rattle.std.specs.declared.io.ErrorKind.TheVariants.{NotFound};
 

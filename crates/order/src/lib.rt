@@ -1,4 +1,6 @@
 // The order of the levels, as an interface.
+#![tactic(auto)]
+
 ghost use Rattle.std.specs.Prelude.{◌≡◌, ℕ, ◌<◌, Bool, true};
 ghost use Rattle.order.specs.Orders.{PartialOrder};
 

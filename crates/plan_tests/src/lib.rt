@@ -1,3 +1,5 @@
 // Plan files that are refused or accepted, by number.
+#![tactic(auto)]
+
 #[cfg(test)]
 mod tests;

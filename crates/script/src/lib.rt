@@ -1,4 +1,6 @@
 // The lines of a script, and the commands that they are.
+#![tactic(auto)]
+
 pub mod command;
 pub mod line;
 pub mod lines;

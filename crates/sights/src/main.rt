@@ -1,5 +1,7 @@
 // Prints what each level sees of the events of a script, which comes on standard input, under the
 // plan in the file plan.bin.
+#![tactic(auto)]
+
 use files::{file_bytes, input_bytes};
 use report::sights::sights_report;
 use std::io;
