@@ -7,11 +7,11 @@ pub loop-k-init : goal.loop-k-init
 unfolding field
 loop-k-init c = refl
 
-pub overflow-mul-number : goal.overflow-mul-number
-overflow-mul-number c = omega (arith, field_lt c.args.file.now c.args.at c.loop-k.k, pow_mono {i = c.loop-k.k} {j = 15} (omega arith))
+pub overflow_mul-number : goal.overflow_mul-number
+overflow_mul-number c = omega (arith, field_lt c.args.file.now c.args.at c.loop-k.k, pow_mono {i = c.loop-k.k} {j = 15} (omega arith))
 
-pub overflow-add-number : goal.overflow-add-number
-overflow-add-number c = omega (arith, field_lt c.args.file.now c.args.at c.loop-k.k, pow_mono {i = c.loop-k.k} {j = 15} (omega arith), bit_lt c.args.file.now (c.args.at + c.loop-k.k))
+pub overflow_add-number : goal.overflow_add-number
+overflow_add-number c = omega (arith, field_lt c.args.file.now c.args.at c.loop-k.k, pow_mono {i = c.loop-k.k} {j = 15} (omega arith), bit_lt c.args.file.now (c.args.at + c.loop-k.k))
 
 pub loop-k-preserved : goal.loop-k-preserved
 loop-k-preserved c = omega (arith, field_step c.args.file.now c.args.at c.loop-k.k)

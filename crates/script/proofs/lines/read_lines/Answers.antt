@@ -7,10 +7,10 @@ loop-rest-init c = none_read _ _ c.new-answers.ensures.items
 
 pub loop-rest-smaller : goal.loop-rest-smaller
 loop-rest-smaller c =
-    omega (arith, ap length c.after-feed-rest.ensures, length-drop (c.line-end-end.result + 1) c.loop-rest.rest.now, false-eqb _ 0 c.loop-rest-test.ensures)
+    omega (arith, ap length c.after_feed-rest.ensures, length-drop (c.line_end-end.result + 1) c.loop-rest.rest.now, false-eqb _ 0 c.loop-rest-test.ensures)
 
 pub loop-rest-preserved : goal.loop-rest-preserved
-loop-rest-preserved c = line_read c.line-end-end.ensures c.loop-rest.invariant c.after-feed-rest.ensures c.in-ok-answer-line.ensures
+loop-rest-preserved c = line_read c.line_end-end.ensures c.loop-rest.invariant c.after_feed-rest.ensures c.in_ok-answer_line.ensures
 
 pub returns : goal.returns
 returns c = all_read _ _ _ c.loop-rest.invariant (true-eqb _ 0 c.loop-rest-test.ensures)

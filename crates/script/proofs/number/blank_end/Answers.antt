@@ -8,7 +8,7 @@ returns-in-err-place c = rw c.from-residual.ensures (past_end _ _ c.in-err-place
 
 pub returns-in-Blank : goal.returns-in-Blank
 returns-in-Blank c =
-    let told = c.in-ok-place.ensures in blank_splits _ _ told.0 _ _ (subst (TokenAt c.args.line.now c.args.at) c.in-Blank.is told.1)
+    let told = c.in_ok-place.ensures in blank_splits _ _ told.0 _ _ (subst (TokenAt c.args.line.now c.args.at) c.in-Blank.is told.1)
 
 pub returns-in-default : goal.returns-in-default
 returns-in-default c = no_blank _ _ _ c.in-ok-place.ensures.1 c.in-default.not-Blank

@@ -5,7 +5,7 @@ pub returns-in-err-value : goal.returns-in-err-value
 returns-in-err-value c = rw c.from-residual.ensures (none_last _ c.in-err-value.ensures)
 
 pub returns-then-end-line : goal.returns-then-end-line
-returns-then-end-line c = not_last _ _ _ _ c.in-ok-value.ensures.1 c.if-end-line.true
+returns-then-end-line c = not_last _ _ _ _ c.in_ok-value.ensures.1 c.if-end-line.true
 
 pub returns : goal.returns
-returns c = is_last _ _ _ _ c.in-ok-value.ensures.1 c.if-end-line.false
+returns c = is_last _ _ _ _ c.in_ok-value.ensures.1 c.if-end-line.false

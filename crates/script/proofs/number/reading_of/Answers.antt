@@ -3,14 +3,14 @@ use Rattle.std.proofs.lemmas.List.{take_all}
 use Rattle.script.proofs.Decimals.{digit_in, reading_below, reading_more}
 use Rattle.script.proofs.number.reading_of.Goals as goal
 
-pub overflow-mul-value : goal.overflow-mul-value
-overflow-mul-value c = search (rules, reading_below)
+pub overflow_mul-value : goal.overflow_mul-value
+overflow_mul-value c = search (rules, reading_below)
 
-pub overflow-sub-digit : goal.overflow-sub-digit
-overflow-sub-digit c = search (rules, digit_in)
+pub overflow_sub-digit : goal.overflow_sub-digit
+overflow_sub-digit c = search (rules, digit_in)
 
-pub overflow-add-value : goal.overflow-add-value
-overflow-add-value c = search (rules, reading_below, digit_in)
+pub overflow_add-value : goal.overflow_add-value
+overflow_add-value c = search (rules, reading_below, digit_in)
 
 pub loop-digit-preserved : goal.loop-digit-preserved
 loop-digit-preserved c = search (rules, reading_more)

@@ -7,4 +7,4 @@ returns-then-not-is-canonical c = decimal_canonical _ (not_from_Decides _ c.is-c
 
 pub returns : goal.returns
 returns c =
-    read_as _ _ _ _ c.requires.digits c.requires.some (c.is-canonical.ensures.0 c.if-not-is-canonical.false) c.reading-of.ensures c.try-from.ensures c.ok.ensures.value
+    read_as _ _ _ _ c.requires.digits c.requires.some (c.is_canonical.ensures.0 c.if-not-is_canonical.false) c.reading_of.ensures c.try-from.ensures c.ok.ensures.value
