@@ -1,7 +1,7 @@
 // An order given by a table.
 ghost use Rattle.std.specs.Prelude.{◌≡◌, ℕ, ◌<◌, ◌≤◌, true, false, Decides, MatchOption};
 ghost use Rattle.order.specs.Orders.{table_entry, among, PartialOrder, PairOrdered, Mutual, Chain};
-ghost use Rattle.std.proofs.Common.{rules, arith};
+ghost use Rattle.order.specs.OrderLaws.{among_inside, order_among, order_of_properties};
 
 use crate::Order;
 use event::Level;
@@ -51,9 +51,9 @@ impl Order for OrderTable {
 
     ghost under = { λ s. among s.levels (table_entry s.rows) };
 
-    ghost lawful = { first_of (Prim.search rules, Prim.grind (arith, Self.row.coded.inj)) };
+    ghost lawful = { λ s. order_among _ _ (order_of_properties s.levels (table_entry s.rows) s.reflexive s.antisymmetric s.transitive) };
 
-    ghost inside = { first_of (Prim.search rules, Prim.grind (arith, Self.row.coded.inj)) };
+    ghost inside = { λ s a b. among_inside s.levels (table_entry s.rows) a b };
 
     fn levels(&self) -> usize {
         self.levels
