@@ -11,7 +11,7 @@ loop-k-preserved c =
         below_more _ _ c.loop-k.invariant.1.0 (omega arith),
         record {
           here = filled_more (λ k x. x ≡ level_in c.args.file.now c.args.at k) (λ k. c.args.from + k)
-              c.loop-k.levels c.loop-k.k _ 0 (omega arith) (λ k h. let ne : (c.args.from + k) ≢ at = omega arith in ne) c.loop-k.invariant.1.1.here c.read-field-level.ensures.is;
+              c.loop-k.levels c.loop-k.k _ 0 (omega arith) (λ k h. let ne : (c.args.from + k) ≢ at = omega arith in ne) c.loop-k.invariant.1.1.here c.read_field-level.ensures.is;
           before = λ k h. let ne : k ≢ at = omega arith in get_or-set_other c.loop-k.levels at k _ 0 ne ∙ c.loop-k.invariant.1.1.before k h;
         },
       ),

@@ -7,5 +7,5 @@ pub loop-b-preserved : goal.loop-b-preserved
 loop-b-preserved c = (
   simp length-set c.loop-b.invariant.0,
   filled_first (λ k x. x ≡ eqb (field c.args.file.now (c.args.at + k) 1) 1)
-      c.loop-b.row c.loop-b.b _ false (omega arith) c.loop-b.invariant.1 (ap (λ z. eqb z 1) c.read-field.ensures.is),
+      c.loop-b.row c.loop-b.b _ false (omega arith) c.loop-b.invariant.1 (ap (λ z. eqb z 1) c.read_field.ensures.is),
 )

@@ -8,8 +8,8 @@ pub loop-l-preserved : goal.loop-l-preserved
 loop-l-preserved c = (
   simp length-set c.loop-l.invariant.0,
   (
-    below_more _ _ c.loop-l.invariant.1.0 c.in-ok-row.ensures.0,
+    below_more _ _ c.loop-l.invariant.1.0 c.in_ok-row.ensures.0,
     filled_first (λ k x. x ≡ cut_in c.args.file.now (c.args.at + 18 * k))
-        c.loop-l.row c.loop-l.l _ Hidden (omega arith) c.loop-l.invariant.1.1 c.in-ok-row.ensures.1,
+        c.loop-l.row c.loop-l.l _ Hidden (omega arith) c.loop-l.invariant.1.1 c.in_ok-row.ensures.1,
   ),
 )

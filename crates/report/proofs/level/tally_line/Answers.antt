@@ -5,4 +5,4 @@ pub returns : goal.returns
 returns c =
     let counts = c.count-whole.ensures in
     closing_same c.args.level c.count-whole.result.whole c.count-whole.result.cut c.count-whole.result.absent _ _ _ _
-    c.in-ok-format.ensures.ok counts.whole counts.cut counts.absent
+    c.in_ok-format.ensures.ok counts.whole counts.cut counts.absent

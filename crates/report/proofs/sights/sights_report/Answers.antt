@@ -5,14 +5,14 @@ use Rattle.report.proofs.sights.sights_report.Goals as goal
 
 pub returns-in-Ok : goal.returns-in-Ok
 returns-in-Ok c = record {
-  report = MatchResult-weaker c.script-report.result c.script-report.ensures
-      (λ s is. report_told c.args.plan-file.now c.args.script.now _ _ c.in-Ok.ensures.reads.0 c.in-Ok.ensures.reads.1 is) (λ e h. h);
+  report = MatchResult-weaker c.script_report.result c.script_report.ensures
+      (λ s is. report_told c.args.plan_file.now c.args.script.now _ _ c.in-Ok.ensures.reads.0 c.in-Ok.ensures.reads.1 is) (λ e h. h);
   counts = counts_law;
 }
 
 pub returns-in-Err : goal.returns-in-Err
 returns-in-Err c = record {
-  report = MatchResult-weaker c.refusal-line.result c.refusal-line.ensures
-      (λ s is. report_refused c.args.plan-file.now c.args.script.now _ _ c.in-Err.ensures.reads.0 is) (λ e h. h);
+  report = MatchResult-weaker c.refusal_line.result c.refusal_line.ensures
+      (λ s is. report_refused c.args.plan_file.now c.args.script.now _ _ c.in-Err.ensures.reads.0 is) (λ e h. h);
   counts = counts_law;
 }
