@@ -10,7 +10,8 @@ use Rattle.order.specs.Orders.{table_entry}
 use Rattle.plan.specs.Plans.{PlanModel, model, LawfulPlan, carrying, sight, and_then, sights, Seen, SightLaws}
 use Rattle.plan.specs.declared.plan.Plan.{Plan}
 use Rattle.cut.proofs.Cutting.{cut_law}
-use Rattle.order.proofs.Ordering.{among_inside, table_order_among}
+use Rattle.order.specs.OrderLaws.{among_inside}
+use Rattle.order.proofs.Ordering.{table_order_among}
 
 -- no plan exists without its properties
 pub plan_lawful : (p : Plan) → LawfulPlan (model p)

@@ -11,7 +11,8 @@ use Rattle.plan.specs.Tables.{cut_entry, Entry}
 use Rattle.cut.specs.declared.Cut.{Cut}
 use Rattle.order.specs.declared.table.OrderTable.{OrderTable}
 use Rattle.plan.specs.declared.sizes.Sizes.{Sizes}
-use Rattle.order.proofs.Ordering.{among_in, order_like, table_order}
+use Rattle.order.specs.OrderLaws.{among_in, order_like}
+use Rattle.order.proofs.Ordering.{table_order}
 
 -- a cut with a number that its kind allows is one that a plan may have
 lawful_of : (k v : ℕ) → k < 4 → LawfulNumber k v → lawful_cut (cut_of k v) ≡ true

@@ -31,11 +31,11 @@ parts c =
       release = c.release_levels.result;
       release_own = c.release_levels.ensures;
       inputs = c.in-Some-read_levels.input_levels;
-      inputs_below = inputs_yes (goal.at.invariant-of-result c).In-Some-read_levels;
+      inputs_below = inputs_yes (goal.at.invariant_of-result c).In-Some-read_levels;
       inputs_read = subst (λ at. LevelsRead f at s.levels (s.inputs - s.levels) c.release_levels.result c.in-Some-read_levels.input_levels) c.input_levels_at.ensures.is c.in-Some-read_levels.ensures.1;
       zeros = replicate 32 0;
       outputs = c.in-Some-read_levels-2.output_levels;
-      outputs_below = outputs_yes (goal.at.invariant-of-result c).In-Some-read_levels-2;
+      outputs_below = outputs_yes (goal.at.invariant_of-result c).In-Some-read_levels-2;
       outputs_read = subst (λ at. LevelsRead f at 0 s.outputs _ c.in-Some-read_levels-2.output_levels) c.output_levels_at.ensures.is c.in-Some-read_levels-2.ensures.1;
       cuts = c.in-Some-read_cuts.cuts;
       cuts_lawful = subst (λ at. TableLawful f at s.levels s.inputs) c.cuts_at.ensures.is c.in-Some-read_cuts.ensures.0;
@@ -63,23 +63,20 @@ returns-in_default-read_cuts c =
     refused_cuts f s c.requires (order_yes (goal.at.returns-in_default-read_cuts c).In-Some) (levels_of_file f s c.requires (inputs_yes (goal.at.returns-in_default-read_cuts c).In-Some-read_levels) (outputs_yes (goal.at.returns-in_default-read_cuts c).In-Some-read_levels-2))
     (λ h. c.in_default-read_cuts.ensures (subst (λ at. TableLawful f at s.levels s.inputs) (sym c.cuts_at.ensures.is) (cuts_from_file f s c.requires h)))
 
-pub invariant-of-result : goal.invariant-of-result
-invariant-of-result c =
+pub invariant_of-result : goal.invariant_of-result
+invariant_of-result c =
     let f = c.args.file.now in
     let s = c.args.sizes in
-    let p = parts c in (
-      omega (arith, p.order_levels),
-      (
-        s.fewinputs,
-        (
-          s.someoutput,
-          (
-            s.fewoutputs,
-            (release_levels_of f s c.requires p, (input_levels_in f s c.requires p, (output_levels_in f s c.requires p, (cuts_in f s c.requires p, tt)))),
-          ),
-        ),
-      ),
-    )
+    let p = parts c in record {
+      released = omega (arith, p.order_levels);
+      fewinputs = s.fewinputs;
+      someoutput = s.someoutput;
+      fewoutputs = s.fewoutputs;
+      releases = release_levels_of f s c.requires p;
+      inputlevels = input_levels_in f s c.requires p;
+      outputlevels = output_levels_in f s c.requires p;
+      lawfulcuts = cuts_in f s c.requires p;
+    }
 
 pub returns : goal.returns
 returns c =
