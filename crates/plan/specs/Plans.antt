@@ -1,6 +1,5 @@
 -- What a plan means, and what a level sees of events under it.
-use Rattle.std.specs.Prelude.{◌≡◌, ℕ, ◌<◌, ◌≤◌, Bool, true, cond, ◌&&◌, List, [], ◌∷◌, IfSome, Some, None, Option, nat_lt, slice_index}
-use Rattle.std.specs.List.{AllByRecursion as All}
+use Rattle.std.specs.Prelude.{◌≡◌, ℕ, ◌<◌, ◌≤◌, Bool, true, cond, ◌&&◌, List, [], ◌∷◌, IfSome, Some, None, Option, nat_lt, slice_index, All}
 use Rattle.event.specs.declared.Event.{Event}
 use Rattle.cut.specs.Cuts.{cut_value, lawful_cut}
 use Rattle.order.specs.Orders.{table_entry, among, PartialOrder}
