@@ -1,5 +1,5 @@
 -- Partial orders, and orders by a table.
-use Rattle.std.proofs.Common.{◌≡◌, ℕ, ◌<◌, Bool, true, refl}
+use Rattle.std.proofs.Common.{ℕ, ◌<◌, Bool, refl}
 use Rattle.order.specs.Orders.{table_entry, among, PartialOrder, PairOrdered}
 use Rattle.order.specs.OrderLaws.{order_among, order_of_properties}
 use Rattle.order.specs.declared.table.OrderTable.{OrderTable}

@@ -1,8 +1,8 @@
 -- Laws of orders by a table, proved here so that the order itself can name them.
-use Rattle.std.specs.Prelude.{◌≡◌, ℕ, ◌<◌, Bool, true, ◌&&◌, nat_lt, List, refl}
+use Rattle.std.specs.Prelude.{◌≡◌, ℕ, ◌<◌, Bool, true, ◌&&◌, nat_lt}
 use Rattle.std.proofs.Common.{sym, ◌∙◌}
 use Rattle.std.proofs.lemmas.Bool.{and_parts, ltb-true, lt-ltb}
-use Rattle.order.specs.Orders.{table_entry, among, PartialOrder, Mutual, Chain}
+use Rattle.order.specs.Orders.{among, PartialOrder, Mutual, Chain}
 
 -- two levels of a relation among n levels are as the relation has them
 pub among_in : (n : ℕ) (r : ℕ → ℕ → Bool) (a b : ℕ) → a < n → b < n → among n r a b ≡ r a b

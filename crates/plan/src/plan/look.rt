@@ -1,5 +1,5 @@
 // What a plan says, and what a level sees under it.
-ghost use Rattle.std.specs.Prelude.{◌≡◌, ◌<◌, ◌&&◌, ltb, ◌++◌, if◌then◌else◌, Some, None, MatchResult, nat_lt};
+ghost use Rattle.std.specs.Prelude.{◌≡◌, ◌<◌, ◌&&◌, ◌++◌, if◌then◌else◌, Some, None, MatchResult, nat_lt};
 ghost use Rattle.event.specs.declared.Refusal.TheVariants.{OutOfMemory};
 ghost use Rattle.plan.specs.Plans.{model, LawfulPlan, sees_whole, sight, sights, SightLaws};
 
@@ -40,7 +40,7 @@ impl Plan {
 
     // The level of an input channel; a channel that the plan does not have has none.
     pub fn input_level(&self, channel: u16) -> Option<Level>
-        ensures { result ≡ (if ltb channel (model self.now).inputs then Some ((model self.now).input_level channel) else None) }
+        ensures { result ≡ (if nat_lt channel (model self.now).inputs then Some ((model self.now).input_level channel) else None) }
     {
         let at = channel as usize;
         if at < self.inputs {
@@ -52,7 +52,7 @@ impl Plan {
 
     // The level of an output channel; a channel that the plan does not have has none.
     pub fn output_level(&self, channel: u16) -> Option<Level>
-        ensures { result ≡ (if ltb channel (model self.now).outputs then Some ((model self.now).output_level channel) else None) }
+        ensures { result ≡ (if nat_lt channel (model self.now).outputs then Some ((model self.now).output_level channel) else None) }
     {
         let at = channel as usize;
         if at < self.outputs {
@@ -64,7 +64,7 @@ impl Plan {
 
     // The cut of an input channel at a level; there is none for a channel or a level that the plan does not have.
     pub fn cut(&self, channel: u16, level: Level) -> Option<Cut>
-        ensures { result ≡ (if ltb channel (model self.now).inputs && nat_lt level (model self.now).levels then Some ((model self.now).cut channel level) else None) }
+        ensures { result ≡ (if nat_lt channel (model self.now).inputs && nat_lt level (model self.now).levels then Some ((model self.now).cut channel level) else None) }
     {
         let at = channel as usize;
         if at < self.inputs && level < self.order.levels() {
