@@ -1,8 +1,8 @@
 -- The properties of every plan, and the laws of sight.
-use Rattle.std.proofs.Common.{◌≡◌, ℕ, ◌+◌, ◌<◌, Bool, true, false, cond, ◌&&◌, ltb, List, [], ◌∷◌, ◌++◌, length, get_or, take, IfSome, Some, None, Option, sym, refl, ap, ◌∙◌, append_assoc, arith, suc}
+use Rattle.std.proofs.Common.{◌≡◌, ℕ, ◌+◌, ◌<◌, Bool, true, false, cond, ◌&&◌, ltb, List, [], ◌∷◌, ◌++◌, length, get_or, take, IfSome, Some, None, Option, sym, refl, ap, ◌∙◌, append_assoc}
 use Rattle.std.proofs.lemmas.List.{take_more}
 use Rattle.std.proofs.lemmas.Bool.{and_parts, ltb-true, lt-ltb}
-use Rattle.std.specs.Prelude.{All}
+use Rattle.std.specs.List.{AllByRecursion}
 use Rattle.std.specs.Option.{option_to_list}
 use Rattle.event.specs.declared.Event.{Event}
 use Rattle.cut.specs.Cuts.{cut_value, LeftBy}
@@ -61,9 +61,9 @@ module _ (P : PlanModel) (lawful : LawfulPlan P) where
   again_then l e None es h q = q
   again_then l e (Some s) es h q = ap (λ x. and_then x (sights P l es)) h.again ∙ ap (λ xs. s ∷ xs) q
 
-  list_twice : (l : ℕ) (es : List Event) → All (λ e. e.value < 65536) es → sights P l (sights P l es) ≡ sights P l es
+  list_twice : (l : ℕ) (es : List Event) → AllByRecursion (λ e. e.value < 65536) es → sights P l (sights P l es) ≡ sights P l es
   list_twice l [] h = refl
-  list_twice l (e ∷ es) h = again_then l e (sight P l e) (sights P l es) (twice l e (h 0 e (omega arith))) (list_twice l es (λ k d inside. h (suc k) d (omega arith)))
+  list_twice l (e ∷ es) h = again_then l e (sight P l e) (sights P l es) (twice l e h.0) (list_twice l es h.1)
 
   pub sight_laws : SightLaws P
   sight_laws = record { whole = whole; twice = twice; list_twice = list_twice }

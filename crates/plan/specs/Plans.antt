@@ -1,5 +1,6 @@
 -- What a plan means, and what a level sees of events under it.
-use Rattle.std.specs.Prelude.{◌≡◌, ℕ, ◌<◌, ◌≤◌, Bool, true, cond, ◌&&◌, List, [], ◌∷◌, IfSome, Some, None, Option, nat_lt, slice_index, All}
+use Rattle.std.specs.Prelude.{◌≡◌, ℕ, ◌<◌, ◌≤◌, Bool, true, cond, ◌&&◌, List, [], ◌∷◌, IfSome, Some, None, Option, nat_lt, slice_index}
+use Rattle.std.specs.List.{AllByRecursion}
 use Rattle.event.specs.declared.Event.{Event}
 use Rattle.cut.specs.Cuts.{cut_value, lawful_cut}
 use Rattle.order.specs.Orders.{table_entry, among, PartialOrder}
@@ -100,4 +101,4 @@ pub record SightLaws (P : PlanModel) : Type 0 where
   pub whole : (l : ℕ) (e : Event) → e.channel < P.inputs → P.below (P.input_level e.channel) l ≡ true → sight P l e ≡ Some e
   -- the sight of a sight is that sight, of one event and of a list
   pub twice : (l : ℕ) (e : Event) → e.value < 65536 → IfSome (sight P l e) (Seen P l e)
-  pub list_twice : (l : ℕ) (es : List Event) → All (λ e. e.value < 65536) es → sights P l (sights P l es) ≡ sights P l es
+  pub list_twice : (l : ℕ) (es : List Event) → AllByRecursion (λ e. e.value < 65536) es → sights P l (sights P l es) ≡ sights P l es

@@ -13,13 +13,13 @@ abbrev pub Answer : Type 0
 Answer = Result Command Refusal
 
 -- the answers so far, with any answers to the rest, are answers to the script
-pub record Goes_on (script rest : List ℕ) (answers : List Answer) : Type 0 where
+pub record GoesOn (script rest : List ℕ) (answers : List Answer) : Type 0 where
   pub with_more : (more : List Answer) → ScriptReads rest more → ScriptReads script (answers ++ more)
 
-pub none_read : (script : List ℕ) (answers : List Answer) → answers ≡ [] → Goes_on script script answers
+pub none_read : (script : List ℕ) (answers : List Answer) → answers ≡ [] → GoesOn script script answers
 none_read script answers e = rw e (record { with_more = λ more h. h })
 
-pub all_read : (script rest : List ℕ) (answers : List Answer) → Goes_on script rest answers → length rest ≡ 0 → ScriptReads script answers
+pub all_read : (script rest : List ℕ) (answers : List Answer) → GoesOn script rest answers → length rest ≡ 0 → ScriptReads script answers
 all_read script [] answers h e = subst (ScriptReads script) (append-nil answers) (h.with_more [] ([], refl, tt))
 all_read script (b ∷ rest) answers h e = absurd (omega arith)
 
@@ -54,15 +54,15 @@ module _ {text : List ℕ} {end : ℕ} (first : FirstLine text end) where
       (λ l. ([], take_all end text l, no_answers (q ∷ ps) rs (e ∙ drop_all (end + 1) text (omega arith)) h))
       (cases_lt end (length text))
 
-  module _ {script : List ℕ} {was : List Answer} (so_far : Goes_on script text was) where
-    passed : end ≡ 0 → Goes_on script (drop (end + 1) text) was
+  module _ {script : List ℕ} {was : List Answer} (so_far : GoesOn script text was) where
+    passed : end ≡ 0 → GoesOn script (drop (end + 1) text) was
     passed none = record {
       with_more = λ more h.
           let p = pieces_more more h in
           so_far.with_more more (take end text ∷ p.0, p.1, subst (λ n. Answers (take n text ∷ p.0) more) (sym none) p.2);
     }
 
-    taken : (r : Answer) → 0 < length (take end text) → LineReads (take end text) r → Goes_on script (drop (end + 1) text) (was ++ r ∷ [])
+    taken : (r : Answer) → 0 < length (take end text) → LineReads (take end text) r → GoesOn script (drop (end + 1) text) (was ++ r ∷ [])
     taken r long reads = record {
       with_more = λ more h.
           let p = pieces_more more h in
@@ -70,7 +70,7 @@ module _ {text : List ℕ} {end : ℕ} (first : FirstLine text end) where
           (so_far.with_more (r ∷ more) (take end text ∷ p.0, p.1, answered (take end text) r p.0 more long (no_feed_take text end first.before) reads p.2));
     }
 
-    either_way : (answers : List Answer) → Answered (take end text) was answers → Goes_on script (drop (end + 1) text) answers
+    either_way : (answers : List Answer) → Answered (take end text) was answers → GoesOn script (drop (end + 1) text) answers
     either_way answers told =
         let size : length (take end text) ≡ end = length-take-le end text first.within in
         ⊎_elim
@@ -79,7 +79,7 @@ module _ {text : List ℕ} {end : ℕ} (first : FirstLine text end) where
         (cases_lt 0 end)
 
     -- one line more is answered
-    pub line_read : {rest : List ℕ} {answers : List Answer} → rest ≡ drop (end + 1) text → Answered (take (end - 0) text) was answers → Goes_on script rest answers
+    pub line_read : {rest : List ℕ} {answers : List Answer} → rest ≡ drop (end + 1) text → Answered (take (end - 0) text) was answers → GoesOn script rest answers
     line_read {rest} {answers} left told =
         let whole : end - 0 ≡ end = omega arith in
         rw left (either_way answers (subst (λ n. Answered (take n text) was answers) whole told))
