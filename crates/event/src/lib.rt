@@ -1,8 +1,11 @@
 // What every layer of the host speaks of: events, outputs, levels and refusals.
 #![tactic(auto)]
 
-ghost use Rattle.std.specs.Prelude.{◌≡◌};
+ghost use Rattle.std.specs.Prelude.{◌≡◌, Some, decimal};
 ghost use Rattle.event.specs.Refusals.{refusal_number, DistinctNumbers};
+
+use std::error::Error;
+use std::fmt;
 
 mod memory;
 
@@ -17,62 +20,57 @@ pub struct Event {
     pub value: u16,
 }
 
-// An output: a value that a lesson sends on an output channel.
+// An output: a value that a lesson sends on an output channel. It has a type of its own, though of the
+// same shape: one type for both would let an event go where an output belongs.
 #[derive(Clone, Copy, Debug, PartialEq, Eq)]
 pub struct Output {
     pub channel: u16,
     pub value: u16,
 }
 
-// Why a call was refused, each case named by what is wrong.
+// Why a call was refused: each case is named by what is wrong, and has the number under which docs/
+// lists it.
 #[derive(Clone, Copy, Debug, PartialEq, Eq)]
 pub enum Refusal {
     // a plan file of fewer than two bytes
-    PlanTooShort,
+    PlanTooShort = 1,
     // fewer input channels than levels
-    TooFewInputs,
+    TooFewInputs = 2,
     // a plan file of another length than its first two bytes say
-    WrongPlanLength,
+    WrongPlanLength = 3,
     // a spare or padding bit that is not zero
-    SpareBitSet,
+    SpareBitSet = 4,
     // a table of levels that is no partial order
-    NoPartialOrder,
+    NoPartialOrder = 5,
     // a channel's level that the plan does not have
-    LevelTooHigh,
+    LevelTooHigh = 6,
     // a cut with a number that its kind does not allow
-    UnlawfulCut,
+    UnlawfulCut = 7,
     // a script line that is no command
-    UnreadableLine,
+    UnreadableLine = 15,
     // a script of more than 65,536 bytes
-    ScriptTooLong,
+    ScriptTooLong = 16,
     // not enough memory for the answer
-    OutOfMemory,
+    OutOfMemory = 99,
 }
 
 impl Refusal {
-    // The number under which docs/ lists the refusal, and which a program prints.
+    // The number of the refusal, which a program prints.
     pub fn number(self) -> u16
         ensures is { result ≡ refusal_number self }
         ensures distinct { DistinctNumbers }
     {
-        number_of(self)
+        self as u16
     }
 }
 
-// The number of a refusal.
-fn number_of(refusal: Refusal) -> u16
-    ensures { result ≡ refusal_number refusal }
-{
-    match refusal {
-        Refusal::PlanTooShort => 1,
-        Refusal::TooFewInputs => 2,
-        Refusal::WrongPlanLength => 3,
-        Refusal::SpareBitSet => 4,
-        Refusal::NoPartialOrder => 5,
-        Refusal::LevelTooHigh => 6,
-        Refusal::UnlawfulCut => 7,
-        Refusal::UnreadableLine => 15,
-        Refusal::ScriptTooLong => 16,
-        Refusal::OutOfMemory => 99,
+impl fmt::Display for Refusal {
+    ghost output = { λ r. Some (decimal (refusal_number r)) };
+
+    fn fmt<W: fmt::Write>(&self, f: &mut fmt::Formatter<W>) -> fmt::Result {
+        let number = self.number();
+        write!(f, "{number}")
     }
 }
+
+impl Error for Refusal {}

@@ -1,4 +1,4 @@
-// Want of memory as a refusal.
+// Want of memory as a refusal. There are two impls, since std has two errors for it and no trait of both.
 ghost use Rattle.std.specs.Prelude.{◌≡◌};
 ghost use Rattle.event.specs.declared.Refusal.TheVariants.{OutOfMemory};
 
