@@ -1,4 +1,5 @@
-// Numbers in the bit fields of a file, most significant bit first.
+// Numbers in the bit fields of a file, most significant bit first. File and place are two parameters,
+// not one value, since a caller reads one file at many places.
 #![tactic(auto)]
 
 ghost use Rattle.std.specs.Prelude.{◌≡◌, ◌+◌, ◌^◌, ◌<◌, ◌≤◌, min};

@@ -2,7 +2,7 @@
 use Rattle.std.specs.Prelude.{◌≡◌, ℕ, ◌<◌, Bool, true, ◌&&◌, nat_lt}
 use Rattle.std.proofs.Common.{sym, ◌∙◌}
 use Rattle.std.proofs.lemmas.Bool.{and_parts, ltb-true, lt-ltb}
-use Rattle.order.specs.Orders.{among, PartialOrder, Mutual, Chain}
+use Rattle.order.specs.Orders.{among, PartialOrder}
 
 -- two levels of a relation among n levels are as the relation has them
 pub among_in : (n : ℕ) (r : ℕ → ℕ → Bool) (a b : ℕ) → a < n → b < n → among n r a b ≡ r a b
@@ -20,18 +20,6 @@ order_like n r s e h = record {
   reflexive = λ a l. sym (e a a l l) ∙ h.reflexive a l;
   antisymmetric = λ a b la lb p q. h.antisymmetric a b la lb (e a b la lb ∙ p) (e b a lb la ∙ q);
   transitive = λ a b c la lb lc p q. sym (e a c la lc) ∙ h.transitive a b c la lb lc (e a b la lb ∙ p) (e b c lb lc ∙ q);
-}
-
--- the three properties of a relation, as the fields of a table hold them, make a partial order
-pub order_of_properties : (n : ℕ) (r : ℕ → ℕ → Bool)
-    → ((a : ℕ) → a < n → r a a ≡ true)
-    → ((w : Mutual n r) → w.a ≡ w.b)
-    → ((w : Chain n r) → r w.a w.c ≡ true)
-    → PartialOrder n r
-order_of_properties n r reflexive antisymmetric transitive = record {
-  reflexive = reflexive;
-  antisymmetric = λ a b la lb p q. antisymmetric (record { a = a; b = b; a_in = la; b_in = lb; ab = p; ba = q });
-  transitive = λ a b c la lb lc p q. transitive (record { a = a; b = b; c = c; a_in = la; b_in = lb; c_in = lc; ab = p; bc = q });
 }
 
 -- a partial order stays one among its levels

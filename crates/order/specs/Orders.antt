@@ -21,23 +21,3 @@ pub record PairOrdered (n : ℕ) (below : ℕ → ℕ → Bool) (a b : ℕ) : Ty
   pub itself : a ≡ b → below a b ≡ true
   pub apart : below a b ≡ true → below b a ≡ true → a ≡ b
   pub onward : (c : ℕ) → c < n → below a b ≡ true → below b c ≡ true → below a c ≡ true
-
--- two levels that are each below the other
-pub record Mutual (n : ℕ) (below : ℕ → ℕ → Bool) : Type 0 where
-  pub a : ℕ
-  pub b : ℕ
-  pub a_in : a < n
-  pub b_in : b < n
-  pub ab : below a b ≡ true
-  pub ba : below b a ≡ true
-
--- three levels, each below the next
-pub record Chain (n : ℕ) (below : ℕ → ℕ → Bool) : Type 0 where
-  pub a : ℕ
-  pub b : ℕ
-  pub c : ℕ
-  pub a_in : a < n
-  pub b_in : b < n
-  pub c_in : c < n
-  pub ab : below a b ≡ true
-  pub bc : below b c ≡ true

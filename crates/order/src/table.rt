@@ -1,12 +1,13 @@
 // An order given by a table.
-ghost use Rattle.std.specs.Prelude.{◌≡◌, ℕ, ◌<◌, ◌≤◌, true, false, Decides, MatchOption};
-ghost use Rattle.order.specs.Orders.{table_entry, among, PartialOrder, PairOrdered, Mutual, Chain};
-ghost use Rattle.order.specs.OrderLaws.{among_inside, order_among, order_of_properties};
+ghost use Rattle.std.specs.Prelude.{◌≡◌, ℕ, ◌<◌, ◌≤◌, ◌↔◌, true, false, IsTrue, MatchOption};
+ghost use Rattle.order.specs.Orders.{table_entry, among, PartialOrder, PairOrdered};
+ghost use Rattle.order.specs.OrderLaws.{among_inside, order_among};
 
 use crate::Order;
 use event::Level;
 
-// A table of up to eight levels: row a, column b says whether a is below b.
+// A table of up to eight levels: row a, column b says whether a is below b. It is of fixed size, and
+// the number of levels stands beside it: rows with lengths of their own could be of different lengths.
 pub type Rows = [[bool; 8]; 8];
 
 // An order by its table, which no value of this type has without the properties of a partial order.
@@ -16,15 +17,14 @@ pub struct OrderTable {
     rows: Rows,
     ghost some: { 1 ≤ levels },
     ghost few: { levels ≤ 8 },
-    ghost reflexive: { (a : ℕ) → a < levels → table_entry rows a a ≡ true },
-    ghost antisymmetric: { (w : Mutual levels (table_entry rows)) → w.a ≡ w.b },
-    ghost transitive: { (w : Chain levels (table_entry rows)) → table_entry rows w.a w.c ≡ true },
+    ghost ordered: { PartialOrder levels (table_entry rows) },
 }
 
 impl OrderTable {
     // The order of one level, which is below itself.
     pub fn single() -> OrderTable
-        ensures { (result.levels ≡ 1) × (table_entry result.rows 0 0 ≡ true) }
+        ensures levels { result.levels ≡ 1 }
+        ensures below { IsTrue (table_entry result.rows 0 0) }
     {
         OrderTable {
             levels: 1,
@@ -36,10 +36,14 @@ impl OrderTable {
     pub fn new(levels: usize, rows: Rows) -> Option<OrderTable>
         ensures { MatchOption result ((1 ≤ levels) × (levels ≤ 8) × PartialOrder levels (table_entry rows) → ⊥) (λ t. (t.levels ≡ levels) × (t.rows ≡ rows)) }
     {
-        if levels < 1 || levels > 8 {
+        if !(1..=8).contains(&levels) {
             return None;
         }
-        if !is_partial_order(&rows, levels) {
+        let relation = Relation {
+            levels,
+            rows: &rows,
+        };
+        if !relation.is_partial_order() {
             return None;
         }
         Some(OrderTable { levels, rows })
@@ -51,7 +55,7 @@ impl Order for OrderTable {
 
     ghost under = { λ s. among s.levels (table_entry s.rows) };
 
-    ghost lawful = { λ s. order_among _ _ (order_of_properties s.levels (table_entry s.rows) s.reflexive s.antisymmetric s.transitive) };
+    ghost lawful = { λ s. order_among _ _ s.ordered };
 
     ghost inside = { λ s a b. among_inside s.levels (table_entry s.rows) a b };
 
@@ -64,40 +68,49 @@ impl Order for OrderTable {
     }
 }
 
-// Whether the table is a partial order on the first n levels.
-fn is_partial_order(rows: &Rows, n: usize) -> bool
-    requires { n ≤ 8 }
-    ensures { Decides result (PartialOrder n (table_entry rows.now)) }
-{
-    for a in 0..n {
-        for b in 0..n {
-            if !is_pair_ordered(rows, n, a, b) {
-                return false;
-            }
-        }
-    }
-    true
+// A relation on the first `levels` levels of a table, which may be no order.
+#[derive(Clone, Copy)]
+struct Relation<'a> {
+    levels: usize,
+    rows: &'a Rows,
+    ghost few: { levels ≤ 8 },
 }
 
-// Whether levels a and b are as a partial order has them.
-fn is_pair_ordered(rows: &Rows, n: usize, a: Level, b: Level) -> bool
-    requires { (n ≤ 8) × ((a < n) × (b < n)) }
-    ensures { Decides result (PairOrdered n (table_entry rows.now) a b) }
-{
-    let below = rows[a][b];
-    if a == b {
-        return below;
+impl Relation<'_> {
+    // Whether the relation is a partial order.
+    fn is_partial_order(&self) -> bool
+        ensures { IsTrue result ↔ PartialOrder self.now.levels (table_entry self.now.rows.now) }
+    {
+        (0..self.levels).all(|a| self.is_row_ordered(a))
     }
-    if !below {
-        return true;
+
+    // Whether level a and each level are as a partial order has them.
+    fn is_row_ordered(&self, a: Level) -> bool
+        requires { a < self.now.levels }
+        ensures { IsTrue result ↔ ((b : ℕ) → b < self.now.levels → PairOrdered self.now.levels (table_entry self.now.rows.now) a b) }
+    {
+        (0..self.levels).all(|b| self.is_pair_ordered(a, b))
     }
-    if rows[b][a] {
-        return false;
-    }
-    for c in 0..n {
-        if rows[b][c] && !rows[a][c] {
-            return false;
+
+    // Whether levels a and b are as a partial order has them.
+    fn is_pair_ordered(&self, a: Level, b: Level) -> bool
+        requires row { a < self.now.levels }
+        requires column { b < self.now.levels }
+        ensures { IsTrue result ↔ PairOrdered self.now.levels (table_entry self.now.rows.now) a b }
+    {
+        let rows = self.rows;
+        if a == b {
+            return rows[a][b];
         }
+        !rows[a][b] || !rows[b][a] && self.is_transitive_at(a, b)
     }
-    true
+
+    // Whether level a is below whatever level b is below.
+    fn is_transitive_at(&self, a: Level, b: Level) -> bool
+        requires row { a < self.now.levels }
+        requires column { b < self.now.levels }
+        ensures { IsTrue result ↔ ((c : ℕ) → c < self.now.levels → IsTrue (table_entry self.now.rows.now b c) → IsTrue (table_entry self.now.rows.now a c)) }
+    {
+        (0..self.levels).all(|c| !self.rows[b][c] || self.rows[a][c])
+    }
 }
