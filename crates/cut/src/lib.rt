@@ -6,9 +6,10 @@ ghost use Rattle.event.specs.Figures.{AllComeOut};
 ghost use Rattle.cut.specs.Cuts.{cut_value, CutLaw, cut_figures};
 
 // A cut: what is left of a value for a level that may not see the channel whole.
-#[derive(Clone, Copy, Debug, PartialEq, Eq)]
+#[derive(Clone, Copy, Debug, Default, PartialEq, Eq)]
 pub enum Cut {
     // nothing, not even that there was an event
+    #[default]
     Hidden,
     // that there was an event: value 0
     Bare,
@@ -29,7 +30,8 @@ impl Cut {
     }
 }
 
-// What a cut leaves of a value.
+// What a cut leaves of a value. This stands apart from `apply`, each of whose returns would have to
+// show the law again.
 fn left_by(cut: Cut, value: u16) -> Option<u16>
     ensures { result ≡ cut_value cut value }
 {

@@ -1,4 +1,4 @@
 pub mod Seeing
-pub mod Filled
+pub mod Made
 pub mod Whole
 pub mod OneFile

@@ -6,9 +6,8 @@ use Rattle.std.proofs.lemmas.List.{same_lists, get_or_default}
 use Rattle.bits.specs.Fields.{bit, field}
 use Rattle.bits.proofs.Laws.{field_lt, same_bits, same_file}
 use Rattle.event.specs.Questions.{AllYes}
-use Rattle.plan.specs.Layout.{file_levels, file_inputs, file_outputs, order_at, input_levels_at, output_levels_at, cuts_at, end_at, below_in, level_in, cut_of, cut_in, cut_place, LawfulNumber, plan_questions, Described, OneFile}
+use Rattle.plan.specs.Layout.{file_levels, file_inputs, file_outputs, order_at, input_levels_at, output_levels_at, cuts_at, end_at, below_in, level_in, cut_of, cut_in, cut_place, LawfulNumber, LawfulIn, plan_questions, Described, OneFile}
 use Rattle.plan.specs.Plans.{PlanModel}
-use Rattle.plan.specs.Reading.{TableLawful}
 use Rattle.cut.specs.declared.Cut.{Cut}
 use Rattle.cut.specs.declared.Cut.TheVariants.{Hidden, Bare, Mask, Step}
 
@@ -61,7 +60,7 @@ record Says (f : List ℕ) (n i o : ℕ) (P : PlanModel) : Type 0 where
   below : (a b : ℕ) → a < n → b < n → P.below a b ≡ below_in f n a b
   input_level : (k : ℕ) → k < i - n → P.input_level (n + k) ≡ level_in f (input_levels_at n) k
   output_level : (c : ℕ) → c < o → P.output_level c ≡ level_in f (output_levels_at n i) c
-  lawful : TableLawful f (cuts_at n i o) n i
+  lawful : (c l : ℕ) → c < i → l < n → LawfulIn f (cut_place (cuts_at n i o) n c l)
   cut : (c l : ℕ) → c < i → l < n → P.cut c l ≡ cut_in f (cut_place (cuts_at n i o) n c l)
 
 says : (f : List ℕ) (P : PlanModel) → AllYes (plan_questions f) → Described f P → Says f P.levels P.inputs P.outputs P
@@ -77,7 +76,7 @@ says f P asked d = record {
       ∙ ap (λ n. level_in f (input_levels_at n) (P.levels + k - n)) (sym d.levels)
       ∙ ap (level_in f (input_levels_at P.levels)) (omega arith);
   output_level = λ c h. d.output_level c h ∙ at_sizes (λ n i o. level_in f (output_levels_at (file_levels f) (file_inputs f)) c ≡ level_in f (output_levels_at n i) c) refl;
-  lawful = at_sizes (λ n i o. TableLawful f (cuts_at n i o) n i) asked.1.1.1.1.1.1.0;
+  lawful = at_sizes (λ n i o. (c l : ℕ) → c < i → l < n → LawfulIn f (cut_place (cuts_at n i o) n c l)) asked.1.1.1.1.1.1.0;
   cut = λ c l hc hl. d.cut c l hc hl
       ∙ at_sizes (λ n i o. cut_in f (cut_place (cuts_at (file_levels f) (file_inputs f) (file_outputs f)) (file_levels f) c l) ≡ cut_in f (cut_place (cuts_at n i o) n c l)) refl;
 }

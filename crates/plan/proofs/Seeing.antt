@@ -1,35 +1,33 @@
 -- The properties of every plan, and the laws of sight.
-use Rattle.std.proofs.Common.{◌≡◌, ℕ, ◌+◌, ◌<◌, Bool, true, false, cond, ◌&&◌, ltb, List, [], ◌∷◌, ◌++◌, length, get_or, take, IfSome, Some, None, Option, sym, refl, ap, ◌∙◌, append_assoc}
-use Rattle.std.proofs.lemmas.List.{take_more}
+use Rattle.std.proofs.Common.{◌≡◌, ℕ, ◌<◌, Bool, true, false, cond, ◌&&◌, ltb, List, [], ◌∷◌, IfSome, Some, None, Option, refl, ap, ◌∙◌}
 use Rattle.std.proofs.lemmas.Bool.{and_parts, ltb-true, lt-ltb}
-use Rattle.std.specs.List.{AllByRecursion}
-use Rattle.std.specs.Option.{option_to_list}
+use Rattle.std.specs.List.{AllByRecursion, cons_option}
 use Rattle.event.specs.declared.Event.{Event}
 use Rattle.cut.specs.Cuts.{cut_value, LeftBy}
 use Rattle.order.specs.Orders.{table_entry}
-use Rattle.plan.specs.Plans.{PlanModel, model, LawfulPlan, carrying, sight, and_then, sights, Seen, SightLaws}
+use Rattle.plan.specs.Plans.{PlanModel, model, LawfulPlan, carrying, sight, sights, Seen, SightLaws}
 use Rattle.plan.specs.declared.plan.Plan.{Plan}
 use Rattle.cut.proofs.Cutting.{cut_law}
-use Rattle.order.specs.OrderLaws.{among_inside}
-use Rattle.order.proofs.Ordering.{table_order_among}
+use Rattle.order.specs.OrderLaws.{among_inside, order_among}
 
 -- no plan exists without its properties
 pub plan_lawful : (p : Plan) → LawfulPlan (model p)
 plan_lawful p =
     let o = p.order in
+    let i = p.lawful_inputs in
     record {
       some_level = o.some;
       few_levels = o.few;
-      release_channels = p.released;
-      few_inputs = p.fewinputs;
-      some_output = p.someoutput;
-      few_outputs = p.fewoutputs;
-      ordered = table_order_among o;
+      release_channels = i.released;
+      few_inputs = i.few;
+      some_output = p.lawful_outputs.some;
+      few_outputs = p.lawful_outputs.few;
+      ordered = order_among _ _ o.ordered;
       inside = λ a b h. among_inside o.levels (table_entry o.rows) a b h;
-      release_level = p.releases;
-      input_level_in = p.inputlevels;
-      output_level_in = p.outputlevels;
-      cuts = λ c l hc hl. p.lawfulcuts (record { channel = c; level = l; channel_in = hc; level_in = hl });
+      release_level = i.release_level;
+      input_level_in = i.level_in;
+      output_level_in = p.lawful_outputs.level_in;
+      cuts = i.cuts;
     }
 
 module _ (P : PlanModel) (lawful : LawfulPlan P) where
@@ -57,9 +55,9 @@ module _ (P : PlanModel) (lawful : LawfulPlan P) where
   twice l e h = twice_by l e h _ _ refl refl
 
   again_then : (l : ℕ) (e : Event) (part : Option Event) (es : List Event) → IfSome part (Seen P l e) → sights P l es ≡ es
-      → sights P l (and_then part es) ≡ and_then part es
+      → sights P l (cons_option part es) ≡ cons_option part es
   again_then l e None es h q = q
-  again_then l e (Some s) es h q = ap (λ x. and_then x (sights P l es)) h.again ∙ ap (λ xs. s ∷ xs) q
+  again_then l e (Some s) es h q = ap (λ x. cons_option x (sights P l es)) h.again ∙ ap (λ xs. s ∷ xs) q
 
   list_twice : (l : ℕ) (es : List Event) → AllByRecursion (λ e. e.value < 65536) es → sights P l (sights P l es) ≡ sights P l es
   list_twice l [] h = refl
@@ -67,24 +65,3 @@ module _ (P : PlanModel) (lawful : LawfulPlan P) where
 
   pub sight_laws : SightLaws P
   sight_laws = record { whole = whole; twice = twice; list_twice = list_twice }
-
--- one event more
-pub sights_push : (P : PlanModel) (l : ℕ) (es : List Event) (e : Event) → sights P l (es ++ e ∷ []) ≡ sights P l es ++ option_to_list (sight P l e)
-sights_push P l [] e = last (sight P l e)
-  where
-    last : (s : Option Event) → and_then s [] ≡ option_to_list s
-    last None = refl
-    last (Some x) = refl
-sights_push P l (d ∷ es) e = ap (and_then (sight P l d)) (sights_push P l es e) ∙ front (sight P l d)
-  where
-    front : (s : Option Event) → and_then s (sights P l es ++ option_to_list (sight P l e)) ≡ and_then s (sights P l es) ++ option_to_list (sight P l e)
-    front None = refl
-    front (Some x) = refl
-
--- a turn of a loop over events: what is seen of the next one comes behind
-pub sights_more :
-    (P : PlanModel) (l : ℕ) (es : List Event) (i : ℕ) (d : Event) (part : Option Event) (old xs ys : List Event)
-    → i < length es → xs ≡ old ++ sights P l (take i es) → part ≡ sight P l (get_or es i d) → ys ≡ xs ++ option_to_list part → ys ≡ old ++ sights P l (take (i + 1) es)
-sights_more P l es i d part old xs ys h before here after =
-    after ∙ (λ k. before k ++ option_to_list (here k)) ∙ append_assoc old (sights P l (take i es)) (option_to_list (sight P l (get_or es i d)))
-    ∙ ap (λ zs. old ++ zs) (sym (ap (sights P l) (take_more es i d h) ∙ sights_push P l (take i es) (get_or es i d)))

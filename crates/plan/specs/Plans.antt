@@ -1,10 +1,10 @@
 -- What a plan means, and what a level sees of events under it.
-use Rattle.std.specs.Prelude.{◌≡◌, ℕ, ◌<◌, ◌≤◌, Bool, true, cond, ◌&&◌, List, [], ◌∷◌, IfSome, Some, None, Option, nat_lt, slice_index}
-use Rattle.std.specs.List.{AllByRecursion}
+use Rattle.std.specs.Prelude.{◌≡◌, ℕ, ◌<◌, ◌≤◌, Bool, true, if◌then◌else◌, ◌&&◌, List, IfSome, Some, None, Option, nat_lt, length, slice_index}
+use Rattle.std.specs.List.{AllByRecursion, filter_map}
 use Rattle.event.specs.declared.Event.{Event}
 use Rattle.cut.specs.Cuts.{cut_value, lawful_cut}
 use Rattle.order.specs.Orders.{table_entry, among, PartialOrder}
-use Rattle.plan.specs.Tables.{cut_entry}
+use Rattle.plan.specs.Tables.{input_at, cut_entry}
 use Rattle.cut.specs.declared.Cut.{Cut}
 use Rattle.cut.specs.declared.Cut.TheVariants.{Hidden}
 use Rattle.plan.specs.declared.plan.Plan.{Plan}
@@ -26,12 +26,12 @@ pub record PlanModel : Type 0 where
 abbrev pub model : Plan → PlanModel
 model p = record {
   levels = p.order.levels;
-  inputs = p.inputs;
-  outputs = p.outputs;
+  inputs = length p.inputs.items;
+  outputs = length p.outputs.items;
   below = among p.order.levels (table_entry p.order.rows);
-  input_level = λ c. slice_index p.input_levels c;
-  output_level = λ c. slice_index p.output_levels c;
-  cut = cut_entry p.cuts;
+  input_level = λ c. (input_at p.inputs.items c).level;
+  output_level = λ c. slice_index p.outputs.items c;
+  cut = cut_entry p.inputs.items;
 }
 
 -- the plan that one begins with: one level, one channel each way, and a hidden cut
@@ -73,21 +73,13 @@ carrying c (Some v) = Some (record { channel = c; value = v })
 -- channel or a level that the plan does not have gives nothing.
 abbrev pub sight : PlanModel → ℕ → Event → Option Event
 sight P l e =
-    cond (nat_lt e.channel P.inputs && nat_lt l P.levels)
-    (cond (P.below (P.input_level e.channel) l)
-    (Some e)
-    (carrying e.channel (cut_value (P.cut e.channel l) e.value)))
-    None
-
--- the element, if there is one, and then the list
-abbrev pub and_then : {A : Type 0} → Option A → List A → List A
-and_then None xs = xs
-and_then (Some x) xs = x ∷ xs
+    if nat_lt e.channel P.inputs && nat_lt l P.levels
+    then (if P.below (P.input_level e.channel) l then Some e else carrying e.channel (cut_value (P.cut e.channel l) e.value))
+    else None
 
 -- the sight of a list of events: that of each in order, absent ones left out
 abbrev pub sights : PlanModel → ℕ → List Event → List Event
-sights P l [] = []
-sights P l (e ∷ es) = and_then (sight P l e) (sights P l es)
+sights P l es = filter_map (sight P l) es
 
 -- s is what level l sees of the event e: it is on the same channel, has 16 bits, and seeing it again gives it again
 pub record Seen (P : PlanModel) (l : ℕ) (e s : Event) : Type 0 where

@@ -1,15 +1,15 @@
 -- What the readers of a plan file and of its parts promise.
-use Rattle.std.specs.Prelude.{◌≡◌, ℕ, ◌+◌, ◌-◌, ◌*◌, ◌/◌, ◌<◌, ◌≤◌, Bool, false, List, length, Result, MatchResult, ◌==◌, slice_index, slice_index_or}
+use Rattle.std.specs.Prelude.{◌≡◌, ℕ, ◌+◌, ◌-◌, ◌*◌, ◌/◌, ◌<◌, ◌≤◌, Bool, false, List, [], length, map, if◌then◌else◌, nat_lt, Result, MatchResult, slice_index_or}
+use Rattle.std.specs.List.{range_with_len}
 use Rattle.bits.specs.Fields.{field}
 use Rattle.event.specs.Questions.{AllYes, FirstNo}
 use Rattle.event.specs.Refusals.{refusal_number}
 use Rattle.event.specs.declared.Refusal.{Refusal}
-use Rattle.plan.specs.Layout.{file_levels, file_inputs, file_outputs, file_end, below_in, level_in, cut_in, cut_place, LawfulIn, plan_questions, Described}
-use Rattle.plan.specs.Plans.{model}
 use Rattle.order.specs.Orders.{table_entry}
-use Rattle.plan.specs.Tables.{cut_entry}
-use Rattle.cut.specs.declared.Cut.{Cut}
-use Rattle.cut.specs.declared.Cut.TheVariants.{Hidden}
+use Rattle.order.specs.declared.table.OrderTable.{OrderTable}
+use Rattle.plan.specs.Layout.{file_levels, file_inputs, file_outputs, file_end, file_below, file_input_level, file_output_level, file_cut_place, cut_in, LawfulIn, plan_questions, Described}
+use Rattle.plan.specs.Plans.{model}
+use Rattle.plan.specs.declared.channel.InputChannel.{InputChannel}
 use Rattle.plan.specs.declared.plan.Plan.{Plan}
 use Rattle.plan.specs.declared.sizes.Sizes.{Sizes}
 
@@ -24,38 +24,40 @@ pub record Sized (f : List ℕ) (s : Sizes) : Type 0 where
   pub spare : field f 13 3 ≡ 0
   pub padding : field f (file_end f) (8 * length f - file_end f) ≡ 0
 
--- a row of the order's table: n bits from `at` on
-abbrev pub OrderRowRead : List ℕ → ℕ → ℕ → List Bool → Type 0
-OrderRowRead f at n row = (b : ℕ) → b < n → slice_index_or row b false ≡ (field f (at + b) 1 == 1)
+-- a row of the order's table
+abbrev pub RowSays : List ℕ → ℕ → List Bool → Type 0
+RowSays f a row = (b : ℕ) → b < 8 → slice_index_or row b false ≡ file_below f a b
 
--- the order's table on n levels
-abbrev pub OrderRead : List ℕ → ℕ → List (List Bool) → Type 0
-OrderRead f n rows = (a b : ℕ) → a < n → b < n → table_entry rows a b ≡ below_in f n a b
+-- the order's table
+abbrev pub TableSays : List ℕ → List (List Bool) → Type 0
+TableSays f rows = (a : ℕ) → a < 8 → RowSays f a (slice_index_or rows a [])
 
--- the first `count` levels from bit `at` on are below n
-abbrev pub LevelsBelow : List ℕ → ℕ → ℕ → ℕ → Type 0
-LevelsBelow f at count n = (k : ℕ) → k < count → level_in f at k < n
+-- the order of a file's levels, as the file gives it
+pub record OrderOf (f : List ℕ) (t : OrderTable) : Type 0 where
+  pub levels : t.levels ≡ file_levels f
+  pub below : (a b : ℕ) → a < file_levels f → b < file_levels f → table_entry t.rows a b ≡ file_below f a b
 
--- `count` levels from bit `at` on stand in a table from place `from` on, and before it what stood in `old`
-pub record LevelsRead (f : List ℕ) (at from count : ℕ) (old levels : List ℕ) : Type 0 where
-  pub here : (k : ℕ) → k < count → slice_index levels (from + k) ≡ level_in f at k
-  pub before : (k : ℕ) → k < from → slice_index levels k ≡ slice_index old k
+-- the level of an input channel: of a release channel its own number, and else what the file says
+abbrev pub own_level : List ℕ → ℕ → ℕ
+own_level f c = if nat_lt c (file_levels f) then c else file_input_level f c
 
--- the cuts of a channel at n levels, from bit `at` on, have numbers that their kinds allow
-abbrev pub RowLawful : List ℕ → ℕ → ℕ → Type 0
-RowLawful f at n = (l : ℕ) → l < n → LawfulIn f (at + 18 * l)
+-- the level of every input channel, and of every output channel, is one of the file's levels
+abbrev pub InputsLawful : List ℕ → Type 0
+InputsLawful f = (c : ℕ) → c < file_inputs f → own_level f c < file_levels f
 
--- and stand in a row
-abbrev pub RowRead : List ℕ → ℕ → ℕ → List Cut → Type 0
-RowRead f at n row = (l : ℕ) → l < n → slice_index_or row l Hidden ≡ cut_in f (at + 18 * l)
+abbrev pub OutputsLawful : List ℕ → Type 0
+OutputsLawful f = (c : ℕ) → c < file_outputs f → file_output_level f c < file_levels f
 
--- the cuts of i channels at n levels, from bit `at` on, have numbers that their kinds allow
-abbrev pub TableLawful : List ℕ → ℕ → ℕ → ℕ → Type 0
-TableLawful f at n i = (c l : ℕ) → c < i → l < n → LawfulIn f (cut_place at n c l)
+-- the cuts of an input channel have numbers that their kinds allow
+abbrev pub RowLawful : List ℕ → ℕ → Type 0
+RowLawful f c = (l : ℕ) → l < file_levels f → LawfulIn f (file_cut_place f c l)
 
--- and stand in a table
-abbrev pub TableRead : List ℕ → ℕ → ℕ → ℕ → List (List Cut) → Type 0
-TableRead f at n i cuts = (c l : ℕ) → c < i → l < n → cut_entry cuts c l ≡ cut_in f (cut_place at n c l)
+-- an input channel as a file gives it
+abbrev pub input_in : List ℕ → ℕ → InputChannel
+input_in f c = record {
+  level = own_level f c;
+  cuts = record { items = map (λ l. cut_in f (file_cut_place f c l)) (range_with_len 0 (file_levels f)) };
+}
 
 -- the plan of a file, or the number of the first question that is answered no
 abbrev pub PlanOf : List ℕ → Result Plan Refusal → Type 0

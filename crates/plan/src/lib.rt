@@ -1,6 +1,7 @@
 // Plans: channels and their levels, the cuts, what each level sees of the events, and plan files.
 #![tactic(auto)]
 
+mod channel;
+mod file;
 pub mod plan;
-mod reading;
 mod sizes;

@@ -8,12 +8,12 @@ pub(crate) struct Sizes {
     pub levels: usize,
     pub inputs: usize,
     pub outputs: usize,
-    ghost somelevel: { 1 ≤ levels },
-    ghost fewlevels: { levels ≤ 8 },
+    ghost some_level: { 1 ≤ levels },
+    ghost few_levels: { levels ≤ 8 },
     ghost released: { levels ≤ inputs },
-    ghost fewinputs: { inputs ≤ 32 },
-    ghost someoutput: { 1 ≤ outputs },
-    ghost fewoutputs: { outputs ≤ 32 },
+    ghost few_inputs: { inputs ≤ 32 },
+    ghost some_output: { 1 ≤ outputs },
+    ghost few_outputs: { outputs ≤ 32 },
 }
 
 impl Sizes {

@@ -1,40 +1,37 @@
 use cut::Cut;
+use event::{Event, Refusal};
 use plan::plan::Plan;
 use std::test::Fail;
 
-// The number of the refusal of a file, or 0.
-fn answer(file: &[u8]) -> u16 {
-    let mut plan = Plan::new();
-    match plan.read(file) {
-        Ok(()) => 0,
-        Err(refusal) => refusal.number(),
-    }
+// The number of the refusal of a file, if it is refused.
+fn refused(file: &[u8]) -> Option<u16> {
+    Plan::new().read(file).err().map(Refusal::number)
 }
 
 // One level, one channel each way: 38 bits in five bytes. Files that break one rule, or none.
-const SMALL: [(&[u8], u16); 16] = [
-    (&[], 1),
-    (&[0x20], 1),
-    (&[0x20, 0x00], 2),
-    (&[0x00, 0x00, 0x80, 0x00], 3),
-    (&[0x00, 0x00, 0x80, 0x00, 0x00, 0x00], 3),
-    (&[0x00, 0x01, 0x80, 0x00, 0x00], 4),
-    (&[0x00, 0x00, 0x80, 0x00, 0x01], 4),
-    (&[0x00, 0x00, 0x00, 0x00, 0x00], 5),
-    (&[0x00, 0x00, 0x90, 0x00, 0x00], 6),
-    (&[0x00, 0x00, 0x80, 0x00, 0x04], 7),
-    (&[0x00, 0x00, 0x84, 0x00, 0x04], 7),
-    (&[0x00, 0x00, 0x8c, 0x00, 0x00], 7),
-    (&[0x00, 0x00, 0x80, 0x00, 0x00], 0),
-    (&[0x00, 0x00, 0x84, 0x00, 0x00], 0),
-    (&[0x00, 0x00, 0x88, 0x00, 0x00], 0),
-    (&[0x00, 0x00, 0x8c, 0x00, 0x04], 0),
+const SMALL: [(&[u8], Option<u16>); 16] = [
+    (&[], Some(1)),
+    (&[0x20], Some(1)),
+    (&[0x20, 0x00], Some(2)),
+    (&[0x00, 0x00, 0x80, 0x00], Some(3)),
+    (&[0x00, 0x00, 0x80, 0x00, 0x00, 0x00], Some(3)),
+    (&[0x00, 0x01, 0x80, 0x00, 0x00], Some(4)),
+    (&[0x00, 0x00, 0x80, 0x00, 0x01], Some(4)),
+    (&[0x00, 0x00, 0x00, 0x00, 0x00], Some(5)),
+    (&[0x00, 0x00, 0x90, 0x00, 0x00], Some(6)),
+    (&[0x00, 0x00, 0x80, 0x00, 0x04], Some(7)),
+    (&[0x00, 0x00, 0x84, 0x00, 0x04], Some(7)),
+    (&[0x00, 0x00, 0x8c, 0x00, 0x00], Some(7)),
+    (&[0x00, 0x00, 0x80, 0x00, 0x00], None),
+    (&[0x00, 0x00, 0x84, 0x00, 0x00], None),
+    (&[0x00, 0x00, 0x88, 0x00, 0x00], None),
+    (&[0x00, 0x00, 0x8c, 0x00, 0x04], None),
 ];
 
 #[test]
 fn small_files(rt: HostRuntime) {
     for (file, number) in SMALL {
-        assert_eq!(rt; answer(file), number);
+        assert_eq!(rt; refused(file), number);
     }
 }
 
@@ -42,10 +39,13 @@ fn small_files(rt: HostRuntime) {
 #[test]
 fn all_ones(rt: HostRuntime) -> Result<(), Fail> {
     let heap = rt.alloc();
-    assert_eq!(rt; answer(vec![in heap; 0xff; 607]?.as_slice()), 4);
-    assert_eq!(rt; answer(vec![in heap; 0xff; 606]?.as_slice()), 3);
-    assert_eq!(rt; answer(vec![in heap; 0xff; 608]?.as_slice()), 3);
-    assert_eq!(rt; answer(vec![in heap; 0xff; 2_000_000]?.as_slice()), 3);
+    assert_eq!(rt; refused(vec![in heap; 0xff; 607]?.as_slice()), Some(4));
+    assert_eq!(rt; refused(vec![in heap; 0xff; 606]?.as_slice()), Some(3));
+    assert_eq!(rt; refused(vec![in heap; 0xff; 608]?.as_slice()), Some(3));
+    assert_eq!(rt;
+        refused(vec![in heap; 0xff; 2_000_000]?.as_slice()),
+        Some(3)
+    );
     Ok(())
 }
 
@@ -72,12 +72,12 @@ fn lengths_off_by_one(rt: HostRuntime) -> Result<(), Fail> {
             let mut file = vec![in heap; 0u8; bytes]?;
             assert!(rt; file.len() > 4 && inputs <= 32);
             file[0] = ((levels - 1) * 32 + inputs - 1) as u8;
-            assert_eq!(rt; answer(file.as_slice()), 5);
+            assert_eq!(rt; refused(file.as_slice()), Some(5));
             let _ = file.pop();
-            assert_eq!(rt; answer(file.as_slice()), 3);
+            assert_eq!(rt; refused(file.as_slice()), Some(3));
             file.push(0)?;
             file.push(0)?;
-            assert_eq!(rt; answer(file.as_slice()), 3);
+            assert_eq!(rt; refused(file.as_slice()), Some(3));
         }
     }
     Ok(())
@@ -97,8 +97,29 @@ fn example(rt: HostRuntime) {
     assert_eq!(rt; plan.outputs(), 2);
     assert!(rt; plan.below(0, 1) && !plan.below(1, 0));
     assert_eq!(rt; plan.cut(3, 0), Some(Cut::Bare));
-    assert_eq!(rt; answer(&EXAMPLE[0..21]), 3);
+    assert_eq!(rt; refused(&EXAMPLE[0..21]), Some(3));
     // a refused file leaves the plan as it was
     assert!(rt; plan.read(&[0x20, 0x00]).is_err());
     assert_eq!(rt; plan.levels(), 2);
+}
+
+#[test]
+fn sights_of_example(rt: HostRuntime) -> Result<(), Fail> {
+    let mut plan = Plan::new();
+    assert!(rt; plan.read(&EXAMPLE).is_ok());
+    let whole = Event {
+        channel: 3,
+        value: 700,
+    };
+    let bare = Event { value: 0, ..whole };
+    let absent = Event {
+        channel: 4,
+        value: 1,
+    };
+    let heap = rt.alloc();
+    let below = plan.sights(heap, 0, &[whole, absent, whole])?;
+    assert_eq!(rt; below.as_slice(), [bare, bare].as_slice());
+    let above = plan.sights(heap, 1, &[whole, absent, whole])?;
+    assert_eq!(rt; above.as_slice(), [whole, whole].as_slice());
+    Ok(())
 }

@@ -21,14 +21,14 @@ impl Plan {
     pub fn inputs(&self) -> usize
         ensures { result ≡ (model self.now).inputs }
     {
-        self.inputs
+        self.inputs.len()
     }
 
     // The number of output channels.
     pub fn outputs(&self) -> usize
         ensures { result ≡ (model self.now).outputs }
     {
-        self.outputs
+        self.outputs.len()
     }
 
     // Whether level a is below level b; a number that is no level is neither below nor above any.
@@ -42,46 +42,30 @@ impl Plan {
     pub fn input_level(&self, channel: u16) -> Option<Level>
         ensures { result ≡ (if nat_lt channel (model self.now).inputs then Some ((model self.now).input_level channel) else None) }
     {
-        let at = channel as usize;
-        if at < self.inputs {
-            Some(self.input_levels[at])
-        } else {
-            None
-        }
+        Some(self.inputs.get(usize::from(channel))?.level)
     }
 
     // The level of an output channel; a channel that the plan does not have has none.
     pub fn output_level(&self, channel: u16) -> Option<Level>
         ensures { result ≡ (if nat_lt channel (model self.now).outputs then Some ((model self.now).output_level channel) else None) }
     {
-        let at = channel as usize;
-        if at < self.outputs {
-            Some(self.output_levels[at])
-        } else {
-            None
-        }
+        self.outputs.get(usize::from(channel)).copied()
     }
 
     // The cut of an input channel at a level; there is none for a channel or a level that the plan does not have.
     pub fn cut(&self, channel: u16, level: Level) -> Option<Cut>
         ensures { result ≡ (if nat_lt channel (model self.now).inputs && nat_lt level (model self.now).levels then Some ((model self.now).cut channel level) else None) }
     {
-        let at = channel as usize;
-        if at < self.inputs && level < self.order.levels() {
-            Some(self.cuts[at][level])
-        } else {
-            None
-        }
+        let input = self.inputs.get(usize::from(channel))?;
+        input.cuts.get(level).copied()
     }
 
     // Whether a level sees the events of an input channel whole.
     pub fn sees_whole(&self, level: Level, channel: u16) -> bool
         ensures { result ≡ sees_whole (model self.now) level channel }
     {
-        match self.input_level(channel) {
-            Some(own) => self.below(own, level),
-            None => false,
-        }
+        self.input_level(channel)
+            .is_some_and(|own| self.below(own, level))
     }
 
     // The sight of an event at a level: what the level may see of it.
@@ -94,6 +78,7 @@ impl Plan {
     }
 
     // Where the channel's level is below the level, the event itself; else what the cut leaves of it.
+    // This stands apart from `sight`, each of whose returns would have to show the laws again.
     fn look(&self, level: Level, event: Event) -> Option<Event>
         ensures { result ≡ sight (model self.now) level event }
     {
@@ -102,10 +87,7 @@ impl Plan {
             return Some(event);
         }
         let value = cut.apply(event.value)?;
-        Some(Event {
-            channel: event.channel,
-            value,
-        })
+        Some(Event { value, ..event })
     }
 
     // The sight of a list of events at a level: that of each in order, absent ones left out.
@@ -117,25 +99,7 @@ impl Plan {
     ) -> Result<Vec<Event>, Refusal>
         ensures { MatchResult result (λ v. v.items ≡ sights (model self.now) level events.now) (λ e. e ≡ OutOfMemory) }
     {
-        let mut seen = Vec::new(heap);
-        self.look_at_all(level, events, &mut seen)?;
-        Ok(seen)
-    }
-
-    // Puts the sight of each event behind those that are there.
-    fn look_at_all(
-        &self,
-        level: Level,
-        events: &[Event],
-        seen: &mut Vec<Event>,
-    ) -> Result<(), Refusal>
-        ensures { MatchResult result (λ _. seen.new.items ≡ seen.old.items ++ sights (model self.now) level events.now) (λ e. e ≡ OutOfMemory) }
-    {
-        for event in events {
-            if let Some(part) = self.look(level, *event) {
-                seen.push(part)?;
-            }
-        }
-        Ok(())
+        let seen = events.iter().filter_map(|event| self.look(level, *event));
+        Ok(seen.collect(heap)?)
     }
 }

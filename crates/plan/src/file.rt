@@ -1,0 +1,190 @@
+// A plan file whose sizes are known, and what it says of levels and channels.
+ghost use Rattle.std.specs.Prelude.{◌≡◌, ℕ, ◌<◌, ◌≤◌, ◌↔◌, IsTrue, MatchOption, MatchResult, map};
+ghost use Rattle.std.specs.List.{range_with_len};
+ghost use Rattle.event.specs.Questions.{FirstNo};
+ghost use Rattle.event.specs.Refusals.{refusal_number};
+ghost use Rattle.order.specs.Orders.{PartialOrder};
+ghost use Rattle.plan.specs.Layout.{file_levels, file_inputs, file_outputs, file_below, file_output_level, file_cut_place, cut_in, LawfulIn, LevelsLawful, CutsLawful, plan_questions};
+ghost use Rattle.plan.specs.Reading.{Sized, RowSays, TableSays, OrderOf, own_level, InputsLawful, OutputsLawful, input_in, RowLawful};
+
+use crate::channel::{CutRow, InputChannel};
+use crate::sizes::Sizes;
+use arrayvec::ArrayVec;
+use bits::read_field;
+use cut::Cut;
+use event::{Level, Refusal};
+use order::table::{OrderTable, Rows};
+use std::array;
+
+// A plan file that is as long as its first two bytes say, with the spare and padding bits zero.
+#[derive(Clone, Copy)]
+pub(crate) struct PlanFile<'a> {
+    bytes: &'a [u8],
+    sizes: Sizes,
+    ghost sized: { Sized bytes.now sizes },
+}
+
+impl<'a> PlanFile<'a> {
+    // The file of some bytes, or the refusal by the first four questions.
+    pub(crate) fn new(bytes: &'a [u8]) -> Result<PlanFile<'a>, Refusal>
+        ensures { MatchResult result (λ f. f.bytes.now ≡ bytes.now) (λ e. FirstNo (plan_questions bytes.now) (refusal_number e)) }
+    {
+        if bytes.len() < 2 {
+            return Err(Refusal::PlanTooShort);
+        }
+        let levels = usize::from(read_field(bytes, 0, 3)) + 1;
+        let inputs = usize::from(read_field(bytes, 3, 5)) + 1;
+        let outputs = usize::from(read_field(bytes, 8, 5)) + 1;
+        if inputs < levels {
+            return Err(Refusal::TooFewInputs);
+        }
+        let sizes = Sizes {
+            levels,
+            inputs,
+            outputs,
+        };
+        let end = sizes.end();
+        if bytes.len() != end.div_ceil(8) {
+            return Err(Refusal::WrongPlanLength);
+        }
+        if read_field(bytes, 13, 3) != 0 || read_field(bytes, end, 8 * bytes.len() - end) != 0 {
+            return Err(Refusal::SpareBitSet);
+        }
+        Ok(PlanFile { bytes, sizes })
+    }
+}
+
+impl PlanFile<'_> {
+    // Whether the file says that level a is below level b.
+    fn below(&self, a: Level, b: Level) -> bool
+        requires row { a < 8 }
+        requires column { b < 8 }
+        ensures { result ≡ file_below self.now.bytes.now a b }
+    {
+        read_field(self.bytes, 16 + (a * self.sizes.levels + b), 1) == 1
+    }
+
+    // A row of the order's table.
+    fn order_row(&self, a: Level) -> [bool; 8]
+        requires { a < 8 }
+        ensures { RowSays self.now.bytes.now a result }
+    {
+        array::from_fn(|b| self.below(a, b))
+    }
+
+    // The order's table.
+    fn order_rows(&self) -> Rows
+        ensures { TableSays self.now.bytes.now result }
+    {
+        array::from_fn(
+            |a| -> [bool; 8]
+                requires { a < 8 }
+                ensures { RowSays self.entry.now.bytes.now a result }
+            { self.order_row(a) },
+        )
+    }
+
+    // The order of the levels; nothing where the file gives none.
+    pub(crate) fn order(&self) -> Option<OrderTable>
+        ensures { MatchOption result (PartialOrder (file_levels self.now.bytes.now) (file_below self.now.bytes.now) → ⊥) (OrderOf self.now.bytes.now) }
+    {
+        OrderTable::new(self.sizes.levels, self.order_rows())
+    }
+
+    // The level of an input channel: a release channel has its own number, and the file gives the others'.
+    fn input_level(&self, channel: usize) -> Level
+        requires { channel < 32 }
+        ensures { result ≡ own_level self.now.bytes.now channel }
+    {
+        let levels = self.sizes.levels;
+        if channel < levels {
+            return channel;
+        }
+        let at = self.sizes.input_levels_at() + 3 * (channel - levels);
+        usize::from(read_field(self.bytes, at, 3))
+    }
+
+    // The level of an output channel.
+    fn output_level(&self, channel: usize) -> Level
+        requires { channel < 32 }
+        ensures { result ≡ file_output_level self.now.bytes.now channel }
+    {
+        let at = self.sizes.output_levels_at() + 3 * channel;
+        usize::from(read_field(self.bytes, at, 3))
+    }
+
+    // Whether every input channel's level is one of the file's levels.
+    fn has_lawful_inputs(&self) -> bool
+        ensures { IsTrue result ↔ InputsLawful self.now.bytes.now }
+    {
+        (0..self.sizes.inputs).all(|c| self.input_level(c) < self.sizes.levels)
+    }
+
+    // Whether every output channel's level is one of the file's levels.
+    fn has_lawful_outputs(&self) -> bool
+        ensures { IsTrue result ↔ OutputsLawful self.now.bytes.now }
+    {
+        (0..self.sizes.outputs).all(|c| self.output_level(c) < self.sizes.levels)
+    }
+
+    // Whether every level that the file gives a channel is one of its levels.
+    pub(crate) fn has_lawful_levels(&self) -> bool
+        ensures { IsTrue result ↔ LevelsLawful self.now.bytes.now }
+    {
+        self.has_lawful_inputs() && self.has_lawful_outputs()
+    }
+
+    // The cut of a channel at a level; nothing where its kind does not allow its number. This is no
+    // TryFrom: kind and number would need a type of their own for this one place.
+    fn cut(&self, channel: usize, level: Level) -> Option<Cut>
+        requires of_channel { channel < self.now.sizes.inputs }
+        requires at_level { level < self.now.sizes.levels }
+        ensures { MatchOption result (LawfulIn self.now.bytes.now (file_cut_place self.now.bytes.now channel level) → ⊥)
+            (λ c. LawfulIn self.now.bytes.now (file_cut_place self.now.bytes.now channel level) × (c ≡ cut_in self.now.bytes.now (file_cut_place self.now.bytes.now channel level))) }
+    {
+        let at = self.sizes.cuts_at() + 18 * (channel * self.sizes.levels + level);
+        let number = read_field(self.bytes, at + 2, 16);
+        match read_field(self.bytes, at, 2) {
+            0 if number == 0 => Some(Cut::Hidden),
+            1 if number == 0 => Some(Cut::Bare),
+            2 => Some(Cut::Mask(number)),
+            3 if number > 0 => Some(Cut::Step(number)),
+            _ => None,
+        }
+    }
+
+    // An input channel with its row of the cut table; nothing where a cut in it is unlawful.
+    fn input(&self, channel: usize) -> Option<InputChannel>
+        requires { channel < self.now.sizes.inputs }
+        ensures { MatchOption result (RowLawful self.now.bytes.now channel → ⊥) (λ i. RowLawful self.now.bytes.now channel × (i ≡ input_in self.now.bytes.now channel)) }
+    {
+        let mut cuts = CutRow::new();
+        for level in 0..self.sizes.levels {
+            cuts.push(self.cut(channel, level)?);
+        }
+        let level = self.input_level(channel);
+        Some(InputChannel { level, cuts })
+    }
+
+    // The input channels; nothing where a cut is unlawful.
+    pub(crate) fn inputs(&self) -> Option<ArrayVec<InputChannel, 32>>
+        ensures { MatchOption result (CutsLawful self.now.bytes.now → ⊥) (λ v. CutsLawful self.now.bytes.now × (v.items ≡ map (input_in self.now.bytes.now) (range_with_len 0 (file_inputs self.now.bytes.now)))) }
+    {
+        let mut inputs = ArrayVec::new();
+        for channel in 0..self.sizes.inputs {
+            inputs.push(self.input(channel)?);
+        }
+        Some(inputs)
+    }
+
+    // The levels of the output channels.
+    pub(crate) fn outputs(&self) -> ArrayVec<Level, 32>
+        ensures { result.items ≡ map (file_output_level self.now.bytes.now) (range_with_len 0 (file_outputs self.now.bytes.now)) }
+    {
+        let mut outputs = ArrayVec::new();
+        for channel in 0..self.sizes.outputs {
+            outputs.push(self.output_level(channel));
+        }
+        outputs
+    }
+}
