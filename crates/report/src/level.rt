@@ -21,15 +21,10 @@ impl<'a> LevelView<'a> {
     fn whole_count(&self) -> usize
         ensures { result ≡ whole_count (model self.now.plan.now) self.now.level self.now.events.now }
     {
-        let LevelView {
-            plan,
-            level,
-            events,
-        } = *self;
-        events
+        self.events
             .iter()
-            .filter(|event| plan.sight(level, **event).is_some()
-                && plan.sees_whole(level, event.channel))
+            .filter(|event| self.plan.sight(self.level, **event).is_some()
+                && self.plan.sees_whole(self.level, event.channel))
             .count()
     }
 
@@ -37,15 +32,10 @@ impl<'a> LevelView<'a> {
     fn cut_count(&self) -> usize
         ensures { result ≡ cut_count (model self.now.plan.now) self.now.level self.now.events.now }
     {
-        let LevelView {
-            plan,
-            level,
-            events,
-        } = *self;
-        events
+        self.events
             .iter()
-            .filter(|event| plan.sight(level, **event).is_some()
-                && !plan.sees_whole(level, event.channel))
+            .filter(|event| self.plan.sight(self.level, **event).is_some()
+                && !self.plan.sees_whole(self.level, event.channel))
             .count()
     }
 
@@ -53,14 +43,9 @@ impl<'a> LevelView<'a> {
     fn absent_count(&self) -> usize
         ensures { result ≡ absent_count (model self.now.plan.now) self.now.level self.now.events.now }
     {
-        let LevelView {
-            plan,
-            level,
-            events,
-        } = *self;
-        events
+        self.events
             .iter()
-            .filter(|event| plan.sight(level, **event).is_none())
+            .filter(|event| self.plan.sight(self.level, **event).is_none())
             .count()
     }
 }
@@ -69,15 +54,11 @@ impl<'a> fmt::Display for LevelView<'a> {
     ghost output = { λ v. Some (level_text (model v.plan.now) v.level v.events.now) };
 
     fn fmt<W: fmt::Write>(&self, f: &mut fmt::Formatter<W>) -> fmt::Result {
-        let LevelView {
-            plan,
-            level,
-            events,
-        } = *self;
+        let level = self.level;
         writeln!(f, "level {level} sees:")?;
-        for event in events {
-            if let Some(seen) = plan.sight(level, *event) {
-                let whole = plan.sees_whole(level, seen.channel);
+        for event in self.events {
+            if let Some(seen) = self.plan.sight(level, *event) {
+                let whole = self.plan.sees_whole(level, seen.channel);
                 write!(f, "{}", SeenEvent { event: seen, whole })?;
             }
         }
@@ -104,15 +85,12 @@ impl<'a> fmt::Display for PlanView<'a> {
     fn fmt<W: fmt::Write>(&self, f: &mut fmt::Formatter<W>) -> fmt::Result {
         let PlanView { plan, events } = *self;
         for level in 0..plan.levels() {
-            write!(
-                f,
-                "{}",
-                LevelView {
-                    plan,
-                    level,
-                    events
-                }
-            )?;
+            let view = LevelView {
+                plan,
+                level,
+                events,
+            };
+            write!(f, "{view}")?;
         }
         Ok(())
     }

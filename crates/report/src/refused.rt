@@ -16,8 +16,7 @@ impl fmt::Display for RefusalLine {
     ghost output = { λ r. Some (refusal_line (refusal_number r.0)) };
 
     fn fmt<W: fmt::Write>(&self, f: &mut fmt::Formatter<W>) -> fmt::Result {
-        let refusal = self.0;
-        writeln!(f, "! {refusal}")
+        writeln!(f, "! {}", self.0)
     }
 }
 

@@ -15,7 +15,7 @@ use script::lines::read_script;
 use std::alloc::{AllocError, Global};
 
 // The text that the program prints, from the bytes of the plan file and of the script.
-#[tactic(auto, using(crate::proofs::Counting::counts_law, crate::proofs::Outcomes::report_refused, crate::proofs::Outcomes::report_told))]
+#[tactic(auto, using(crate::proofs::Counting::counts_law, crate::proofs::Outcomes::report_refused))]
 pub fn sights_report(heap: Global, plan_file: &[u8], script: &[u8]) -> Result<String, Refusal>
     ensures report { MatchResult result (λ s. ReportOf plan_file.now script.now (string_bytes s)) (λ e. e ≡ OutOfMemory) }
     ensures counts { CountsLaw }

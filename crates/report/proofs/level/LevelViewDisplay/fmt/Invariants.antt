@@ -7,4 +7,4 @@ use Rattle.report.proofs.level.LevelViewDisplay.fmt.Given as goal
 
 abbrev pub invariant-loop-event : goal.invariant-loop-event
 invariant-loop-event g l =
-    IsPlainFormatter l.initial.f → HasWritten g.W.Write.write_str_gives l.initial.f (flat_map (sight_line (model l.plan) l.level) (sights (model l.plan) l.level (take l.event-index l.events))) l.f
+    IsPlainFormatter l.initial.f → HasWritten g.W.Write.write_str_gives l.initial.f (flat_map (sight_line (model l.self.plan.now) l.level) (sights (model l.self.plan.now) l.level (take l.event-index l.event-items))) l.f
