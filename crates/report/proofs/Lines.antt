@@ -1,5 +1,5 @@
 -- The lines on what a level sees, event by event.
-use Rattle.std.proofs.Common.{◌≡◌, ℕ, ◌+◌, ◌<◌, List, [], ◌∷◌, ◌++◌, Some, None, Option, get_or, length, take, refl, sym, ap, ◌∙◌}
+use Rattle.std.proofs.Common.{◌≡◌, ℕ, ◌+◌, ◌<◌, List, [], ◌∷◌, ◌++◌, Some, None, Option, get_or, length, take, refl, ap, ◌∙◌}
 use Rattle.std.proofs.lemmas.List.{flat_map_more, take_more}
 use Rattle.std.specs.List.{flat_map}
 use Rattle.event.specs.declared.Event.{Event}
@@ -24,7 +24,4 @@ lines_each P l (e ∷ es) = line_first P l (sight P l e) (sights P l es) ∙ ap 
 -- a turn of a loop over events: the line of one more behind those of the events before it
 pub lines_more : (P : PlanModel) (l : ℕ) (es : List Event) (i : ℕ) (d : Event) → i < length es
     → flat_map (sight_line P l) (sights P l (take i es)) ++ line_of P l (sight P l (get_or es i d)) ≡ flat_map (sight_line P l) (sights P l (take (i + 1) es))
-lines_more P l es i d h =
-    ap (λ ls. ls ++ line_of P l (sight P l (get_or es i d))) (lines_each P l (take i es))
-    ∙ flat_map_more (λ e. line_of P l (sight P l e)) [] (take i es) (get_or es i d)
-    ∙ ap (flat_map (λ e. line_of P l (sight P l e))) (sym (take_more es i d h)) ∙ sym (lines_each P l (take (i + 1) es))
+lines_more P l es i d h = simp (lines_each, take_more es i d h) (flat_map_more _ [] (take i es) (get_or es i d))

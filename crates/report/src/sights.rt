@@ -32,7 +32,7 @@ fn script_report(heap: Global, plan: &Plan, script: &[u8]) -> Result<String, All
     ensures { IfOk result (λ s. ScriptReport (model plan.now) script.now (string_bytes s)) }
 {
     match read_script(heap, script) {
-        Ok(answers) => answers_text(heap, plan, answers.as_slice()),
+        Ok(answers) => answers_text(heap, plan, &answers),
         Err(Refusal::OutOfMemory) => Err(AllocError),
         Err(too_long) => RefusalLine(too_long).to_string(heap),
     }
@@ -50,7 +50,7 @@ fn answers_text(
     let refused = RefusedLines(answers);
     let sights = PlanView {
         plan,
-        events: events.as_slice(),
+        events: &events,
     };
     format!(in heap; "{refused}{sights}")
 }
