@@ -1,3 +1,3 @@
 pub mod Counting
+pub mod Lines
 pub mod Outcomes
-pub mod Texts

@@ -1,5 +1,5 @@
 -- The text of the report on what each level sees.
-use Rattle.std.specs.Prelude.{◌≡◌, ℕ, zero, suc, ◌+◌, cond, not, ◌&&◌, List, [], ◌∷◌, ◌++◌, length, is_some, codes, decimal, filter}
+use Rattle.std.specs.Prelude.{◌≡◌, ℕ, zero, suc, ◌+◌, if◌then◌else◌, Bool, not, ◌&&◌, List, [], ◌∷◌, ◌++◌, length, is_some, codes, decimal, filter}
 use Rattle.std.specs.List.{flat_map}
 use Rattle.event.specs.declared.Event.{Event}
 use Rattle.plan.specs.Plans.{PlanModel, sees_whole, sight, sights}
@@ -8,11 +8,15 @@ use Rattle.plan.specs.Plans.{PlanModel, sees_whole, sight, sights}
 abbrev pub refusal_line : ℕ → List ℕ
 refusal_line k = codes "! " ++ (decimal k ++ (10 ∷ []))
 
+-- the line of what is seen of one event, marked unless it is whole
+abbrev pub seen_line : Bool → Event → List ℕ
+seen_line whole s =
+    codes "  channel " ++ (decimal s.channel ++ (codes ": " ++ (decimal s.value
+    ++ ((if whole then [] else codes " (cut)") ++ (10 ∷ [])))))
+
 -- the line of what level l sees of one event, marked if it was cut
 abbrev pub sight_line : PlanModel → ℕ → Event → List ℕ
-sight_line P l s =
-    codes "  channel " ++ (decimal s.channel ++ (codes ": " ++ (decimal s.value
-    ++ (cond (sees_whole P l s.channel) [] (codes " (cut)") ++ (10 ∷ [])))))
+sight_line P l s = seen_line (sees_whole P l s.channel) s
 
 -- how many of some events level l sees whole
 abbrev pub whole_count : PlanModel → ℕ → List Event → ℕ

@@ -1,70 +1,97 @@
-// The text on what levels see of some events.
-ghost use Rattle.std.specs.Prelude.{◌≡◌, [], if◌then◌else◌, string_bytes, codes, MatchResult};
-ghost use Rattle.std.specs.List.{flat_map};
-ghost use Rattle.event.specs.declared.Refusal.TheVariants.{OutOfMemory};
-ghost use Rattle.plan.specs.Plans.{model, sights};
-ghost use Rattle.report.specs.Reports.{sight_line, tally_line, level_text, levels_text};
+// What the levels of a plan see of some events.
+ghost use Rattle.std.specs.Prelude.{◌≡◌, Some};
+ghost use Rattle.plan.specs.Plans.{model};
+ghost use Rattle.report.specs.Reports.{whole_count, cut_count, absent_count, level_text, levels_text};
 
-use crate::tally::Tally;
-use event::{Event, Level, Refusal};
+use crate::seen::SeenEvent;
+use event::{Event, Level};
 use plan::plan::Plan;
-use std::alloc::Global;
+use std::fmt;
 
-// What stands behind the value of an event, seen whole or not.
-fn cut_mark(whole: bool) -> &'static str
-    ensures { result.now ≡ (if whole then [] else codes " (cut)") }
-{
-    if whole { "" } else { " (cut)" }
+// What one level of a plan sees of some events.
+#[derive(Clone, Copy)]
+struct LevelView<'a> {
+    plan: &'a Plan,
+    level: Level,
+    events: &'a [Event],
 }
 
-// The line on what a level sees of one event, marked if it was cut.
-fn sight_line(heap: Global, plan: &Plan, level: Level, seen: Event) -> Result<String, Refusal>
-    ensures { MatchResult result (λ s. string_bytes s ≡ sight_line (model plan.now) level seen) (λ e. e ≡ OutOfMemory) }
-{
-    let mark = cut_mark(plan.sees_whole(level, seen.channel));
-    let channel = seen.channel;
-    let value = seen.value;
-    Ok(format!(in heap; "  channel {channel}: {value}{mark}\n")?)
-}
-
-// The lines on what a level sees of some events, in order.
-fn sight_lines(heap: Global, plan: &Plan, level: Level, events: &[Event]) -> Result<String, Refusal>
-    ensures { MatchResult result (λ s. string_bytes s ≡ flat_map (sight_line (model plan.now) level) (sights (model plan.now) level events.now)) (λ e. e ≡ OutOfMemory) }
-{
-    let seen = plan.sights(heap, level, events)?;
-    let mut lines = String::new(heap);
-    for event in seen.as_slice() {
-        let line = sight_line(heap, plan, level, *event)?;
-        lines.push_str(line.as_str())?;
+impl<'a> LevelView<'a> {
+    // How many of the events the level sees whole.
+    fn whole_count(&self) -> usize
+        ensures { result ≡ whole_count (model self.now.plan.now) self.now.level self.now.events.now }
+    {
+        self.events
+            .iter()
+            .filter(|event| self.plan.sight(self.level, **event).is_some()
+                && self.plan.sees_whole(self.level, event.channel))
+            .count()
     }
-    Ok(lines)
-}
 
-// The closing line on a level, with how many of some events it sees whole, cut, and not at all.
-fn tally_line(heap: Global, plan: &Plan, level: Level, events: &[Event]) -> Result<String, Refusal>
-    ensures { MatchResult result (λ s. string_bytes s ≡ tally_line (model plan.now) level events.now) (λ e. e ≡ OutOfMemory) }
-{
-    let Tally { whole, cut, absent } = Tally::count(plan, level, events);
-    Ok(format!(in heap; "level {level}: {whole} whole, {cut} cut, {absent} not at all\n")?)
-}
-
-// The text on what a level sees of some events.
-fn level_text(heap: Global, plan: &Plan, level: Level, events: &[Event]) -> Result<String, Refusal>
-    ensures { MatchResult result (λ s. string_bytes s ≡ level_text (model plan.now) level events.now) (λ e. e ≡ OutOfMemory) }
-{
-    let lines = sight_lines(heap, plan, level, events)?;
-    let closing = tally_line(heap, plan, level, events)?;
-    Ok(format!(in heap; "level {level} sees:\n{lines}{closing}")?)
-}
-
-// The text on all levels, by rising number.
-pub(crate) fn levels_text(heap: Global, plan: &Plan, events: &[Event]) -> Result<String, Refusal>
-    ensures { MatchResult result (λ s. string_bytes s ≡ levels_text (model plan.now) events.now (model plan.now).levels) (λ e. e ≡ OutOfMemory) }
-{
-    let mut text = String::new(heap);
-    for level in 0..plan.levels() {
-        let part = level_text(heap, plan, level, events)?;
-        text.push_str(part.as_str())?;
+    // How many of the events the level sees cut.
+    fn cut_count(&self) -> usize
+        ensures { result ≡ cut_count (model self.now.plan.now) self.now.level self.now.events.now }
+    {
+        self.events
+            .iter()
+            .filter(|event| self.plan.sight(self.level, **event).is_some()
+                && !self.plan.sees_whole(self.level, event.channel))
+            .count()
     }
-    Ok(text)
+
+    // How many of the events the level does not see at all.
+    fn absent_count(&self) -> usize
+        ensures { result ≡ absent_count (model self.now.plan.now) self.now.level self.now.events.now }
+    {
+        self.events
+            .iter()
+            .filter(|event| self.plan.sight(self.level, **event).is_none())
+            .count()
+    }
+}
+
+impl<'a> fmt::Display for LevelView<'a> {
+    ghost output = { λ v. Some (level_text (model v.plan.now) v.level v.events.now) };
+
+    fn fmt<W: fmt::Write>(&self, f: &mut fmt::Formatter<W>) -> fmt::Result {
+        let level = self.level;
+        writeln!(f, "level {level} sees:")?;
+        for event in self.events {
+            if let Some(seen) = self.plan.sight(level, *event) {
+                let whole = self.plan.sees_whole(level, seen.channel);
+                write!(f, "{}", SeenEvent { event: seen, whole })?;
+            }
+        }
+        let whole = self.whole_count();
+        let cut = self.cut_count();
+        let absent = self.absent_count();
+        writeln!(
+            f,
+            "level {level}: {whole} whole, {cut} cut, {absent} not at all"
+        )
+    }
+}
+
+// What all levels of a plan see of some events, by rising number.
+#[derive(Clone, Copy)]
+pub(crate) struct PlanView<'a> {
+    pub(crate) plan: &'a Plan,
+    pub(crate) events: &'a [Event],
+}
+
+impl<'a> fmt::Display for PlanView<'a> {
+    ghost output = { λ v. Some (levels_text (model v.plan.now) v.events.now (model v.plan.now).levels) };
+
+    fn fmt<W: fmt::Write>(&self, f: &mut fmt::Formatter<W>) -> fmt::Result {
+        let PlanView { plan, events } = *self;
+        for level in 0..plan.levels() {
+            let view = LevelView {
+                plan,
+                level,
+                events,
+            };
+            write!(f, "{view}")?;
+        }
+        Ok(())
+    }
 }

@@ -4,5 +4,5 @@
 mod answers;
 mod level;
 mod refused;
+mod seen;
 pub mod sights;
-mod tally;

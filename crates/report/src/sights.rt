@@ -1,39 +1,40 @@
 // The whole report on a plan file and a script.
-ghost use Rattle.std.specs.Prelude.{◌≡◌, string_bytes, MatchResult};
+ghost use Rattle.std.specs.Prelude.{◌≡◌, string_bytes, MatchResult, IfOk};
 ghost use Rattle.event.specs.declared.Refusal.TheVariants.{OutOfMemory};
 ghost use Rattle.plan.specs.Plans.{model};
 ghost use Rattle.report.specs.Reports.{CountsLaw};
 ghost use Rattle.report.specs.Runs.{answers_text, ScriptReport, ReportOf};
 
-use crate::answers::{events_of, refused_lines};
-use crate::level::levels_text;
-use crate::refused::refusal_line;
+use crate::answers::events_of;
+use crate::level::PlanView;
+use crate::refused::{RefusalLine, RefusedLines};
 use event::Refusal;
 use plan::plan::Plan;
 use script::command::Command;
 use script::lines::read_script;
-use std::alloc::Global;
+use std::alloc::{AllocError, Global};
 
 // The text that the program prints, from the bytes of the plan file and of the script.
+#[tactic(auto, using(crate::proofs::Counting::counts_law, crate::proofs::Outcomes::report_refused))]
 pub fn sights_report(heap: Global, plan_file: &[u8], script: &[u8]) -> Result<String, Refusal>
     ensures report { MatchResult result (λ s. ReportOf plan_file.now script.now (string_bytes s)) (λ e. e ≡ OutOfMemory) }
     ensures counts { CountsLaw }
 {
     let mut plan = Plan::new();
     match plan.read(plan_file) {
-        Ok(()) => script_report(heap, &plan, script),
-        Err(refusal) => refusal_line(heap, refusal),
+        Ok(()) => Ok(script_report(heap, &plan, script)?),
+        Err(refusal) => Ok(RefusalLine(refusal).to_string(heap)?),
     }
 }
 
 // The text for a script under a plan.
-fn script_report(heap: Global, plan: &Plan, script: &[u8]) -> Result<String, Refusal>
-    ensures { MatchResult result (λ s. ScriptReport (model plan.now) script.now (string_bytes s)) (λ e. e ≡ OutOfMemory) }
+fn script_report(heap: Global, plan: &Plan, script: &[u8]) -> Result<String, AllocError>
+    ensures { IfOk result (λ s. ScriptReport (model plan.now) script.now (string_bytes s)) }
 {
     match read_script(heap, script) {
-        Ok(answers) => answers_text(heap, plan, answers.as_slice()),
-        Err(Refusal::OutOfMemory) => Err(Refusal::OutOfMemory),
-        Err(too_long) => refusal_line(heap, too_long),
+        Ok(answers) => answers_text(heap, plan, &answers),
+        Err(Refusal::OutOfMemory) => Err(AllocError),
+        Err(too_long) => RefusalLine(too_long).to_string(heap),
     }
 }
 
@@ -42,12 +43,14 @@ fn answers_text(
     heap: Global,
     plan: &Plan,
     answers: &[Result<Command, Refusal>],
-) -> Result<String, Refusal>
-    ensures { MatchResult result (λ s. string_bytes s ≡ answers_text (model plan.now) answers.now) (λ e. e ≡ OutOfMemory) }
+) -> Result<String, AllocError>
+    ensures { IfOk result (λ s. string_bytes s ≡ answers_text (model plan.now) answers.now) }
 {
     let events = events_of(heap, answers)?;
-    let mut text = refused_lines(heap, answers)?;
-    let levels = levels_text(heap, plan, events.as_slice())?;
-    text.push_str(levels.as_str())?;
-    Ok(text)
+    let refused = RefusedLines(answers);
+    let sights = PlanView {
+        plan,
+        events: &events,
+    };
+    format!(in heap; "{refused}{sights}")
 }
