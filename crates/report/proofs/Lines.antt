@@ -1,9 +1,9 @@
 -- The lines on what a level sees, event by event.
 use Rattle.std.proofs.Common.{◌≡◌, ℕ, ◌+◌, ◌<◌, List, [], ◌∷◌, ◌++◌, Some, None, Option, get_or, length, take, refl, ap, ◌∙◌}
 use Rattle.std.proofs.lemmas.List.{flat_map_more, take_more}
-use Rattle.std.specs.List.{flat_map}
+use Rattle.std.specs.List.{cons_option, flat_map}
 use Rattle.event.specs.declared.Event.{Event}
-use Rattle.plan.specs.Plans.{PlanModel, sight, sights, and_then}
+use Rattle.plan.specs.Plans.{PlanModel, sight, sights}
 use Rattle.report.specs.Reports.{sight_line}
 
 -- the line of what level l sees of an event, if it sees something
@@ -12,7 +12,7 @@ line_of P l None = []
 line_of P l (Some s) = sight_line P l s
 
 line_first : (P : PlanModel) (l : ℕ) (part : Option Event) (ss : List Event)
-    → flat_map (sight_line P l) (and_then part ss) ≡ line_of P l part ++ flat_map (sight_line P l) ss
+    → flat_map (sight_line P l) (cons_option part ss) ≡ line_of P l part ++ flat_map (sight_line P l) ss
 line_first P l None ss = refl
 line_first P l (Some s) ss = refl
 
