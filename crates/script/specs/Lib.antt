@@ -1,5 +1,4 @@
 pub mod Commands
-pub mod Ends
 pub mod Fields
 pub mod Scripts
 pub mod Tokens

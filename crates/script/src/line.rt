@@ -50,12 +50,5 @@ pub fn read_line(line: &[u8]) -> Result<Command, Refusal>
     ensures reads { LineReads line.now result }
     ensures one { OneCommand }
 {
-    answer_to(line)
-}
-
-// The command that a line is, or the refusal.
-fn answer_to(line: &[u8]) -> Result<Command, Refusal>
-    ensures { LineReads line.now result }
-{
     command_of(line).ok_or(Refusal::UnreadableLine)
 }
