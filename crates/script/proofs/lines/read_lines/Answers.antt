@@ -7,6 +7,6 @@ use Rattle.script.proofs.lines.read_lines.Goals as goal
 pub returns : goal.returns
 returns c =
     all_answered c.args.script.now c.loop-line.yielded _
-    (YieldsList-end (YieldsList-at c.into_iter-line-iterator.ensures.into_iter_gives (YieldsList-from_slice_split _ is_feed c.args.script.now c.split-line-items.ensures.rest c.split-line-items.ensures.done c.split-line-items.ensures.closure (λ x r q k. search (rules, tests))))
+    (YieldsList-end (YieldsList-at c.into_iter-line-iterator.ensures.into_iter_gives (YieldsList-from_slice_split _ is_feed c.args.script.now (cc) (cc) (cc) (λ x r q k. search (rules, tests))))
     c.loop-line.yielded _ c.loop-line.yielded_by _ _ c.in-None.is c.next.ensures.steps).0
     c.loop-line.invariant
