@@ -1,44 +1,27 @@
 // The numbers of a line: 0 to 65,535 in decimal, without a leading zero.
-ghost use Rattle.std.specs.Prelude.{◌≡◌, ℕ, ◌<◌, ◌≤◌, true, List, ◌∷◌, length, drop, decimal, Decides, MatchOption, ◌≢◌};
+ghost use Rattle.std.specs.Prelude.{◌≡◌, ℕ, ◌<◌, ◌≤◌, true, List, ◌∷◌, length, drop, decimal, IsTrue, ◌↔◌, slice_index, MatchOption, ◌≢◌};
 ghost use Rattle.std.specs.Str.{all_ascii_digits};
-ghost use Rattle.script.specs.Fields.{reading, Canonical, NumberThen, SpacedThen, LastNumber};
+ghost use Rattle.script.specs.Fields.{NumberThen, SpacedThen, LastNumber};
 
 use crate::token::{Token, token_at};
+use std::str;
 
-// No number of a script has more digits.
-const MOST_DIGITS: usize = 5;
-
-// Whether some digits are at most five, with no zero before others.
-fn is_canonical(text: &[u8]) -> bool
-    requires { 0 < length text.now }
-    ensures { Decides result (Canonical text.now) }
+// Whether some digits are a zero before others.
+fn has_leading_zero(digits: &[u8]) -> bool
+    ensures { IsTrue result ↔ ((1 < length digits.now) × (slice_index digits.now 0 ≡ 48)) }
 {
-    text.len() <= MOST_DIGITS && (text.len() == 1 || text[0] != b'0')
-}
-
-// What some digits, at most five, are read as in base ten.
-fn reading_of(text: &[u8]) -> u32
-    requires digits { all_ascii_digits text.now ≡ true }
-    requires short { length text.now ≤ 5 }
-    ensures { result ≡ reading text.now }
-{
-    let mut value: u32 = 0;
-    for digit in text {
-        value = 10 * value + u32::from(*digit - b'0');
-    }
-    value
+    matches!(digits, [b'0', _, ..])
 }
 
 // The number that a row of digits writes out; nothing for a leading zero or a number too large.
-fn value_of(text: &[u8]) -> Option<u16>
-    requires some { 0 < length text.now }
-    requires digits { all_ascii_digits text.now ≡ true }
-    ensures { MatchOption result ((v : ℕ) → v ≤ 65535 → text.now ≢ decimal v) (λ v. (v ≤ 65535) × (text.now ≡ decimal v)) }
+fn value_of(digits: &[u8]) -> Option<u16>
+    requires { all_ascii_digits digits.now ≡ true }
+    ensures { MatchOption result ((v : ℕ) → v ≤ 65535 → digits.now ≢ decimal v) (λ v. (v ≤ 65535) × (digits.now ≡ decimal v)) }
 {
-    if !is_canonical(text) {
+    if has_leading_zero(digits) {
         return None;
     }
-    u16::try_from(reading_of(text)).ok()
+    str::from_utf8(digits).ok()?.parse().ok()
 }
 
 // Where the blank at a place ends; nothing where there is none.

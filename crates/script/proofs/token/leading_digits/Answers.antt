@@ -11,4 +11,4 @@ pub returns : goal.returns
 returns c =
     let count : c.count-count.result ≡ prefix_len is_ascii_digit c.args.text.now =
     count_from_yields_List c.take_while.result _ c.count-count.ensures.ran (YieldsList-from_take_while _ is_ascii_digit (YieldsList-from_slice c.args.text.now (cc)) c.take_while.ensures.closure c.take_while.ensures.done (λ x b q k. search (rules, tests))) ∙ length-prefix_len is_ascii_digit c.args.text.now in
-    rw count
+    cc
