@@ -1,11 +1,10 @@
 -- Numbers in decimal.
-use Rattle.std.proofs.Common.{◌≡◌, ℕ, zero, suc, ◌^◌, ◌<◌, ◌≤◌, true, List, length, get_or, Ok, Err, decimal, Result, sym, ap, ◌∙◌, ⊎_elim, arith}
+use Rattle.std.proofs.Common.{◌≡◌, ℕ, zero, suc, ◌^◌, ◌<◌, ◌≤◌, true, List, length, get_or, Ok, Err, decimal, Result, sym, ap, ◌∙◌, arith}
 use Rattle.std.specs.Result.{result_ok}
 use Rattle.std.specs.Int.{IsInRange}
 use Rattle.std.specs.Str.{IsUtf8, all_ascii_digits}
 use Rattle.std.specs.Str.Parse.{ParsesUnsigned, digits_value}
 use Rattle.script.specs.Cursors.{IsReading}
-use Rattle.std.proofs.lemmas.Bool.{cases_order}
 use Rattle.std.proofs.lemmas.Fmt.{IsAscii-from_digits, digits_decimal, digits_value-decimal, decimal-digits_value, decimal_digit, decimal_nonempty, first_decimal}
 use Rattle.std.proofs.lemmas.Str.{IsUtf8-from_ascii}
 use Rattle.std.proofs.lemmas.Str.Parse.{IsNumeralModel, numerals_by_value, tells_all_ascii_digits, digit_at, parse_digits}
@@ -43,7 +42,7 @@ module _ (ds : List ℕ) (all : all_ascii_digits ds ≡ true) where
   pub parse_decimal : {E : Type 0} (r : Result ℕ E) → ParsesUnsigned 16 10 ds r → ((1 < length ds) × (get_or ds 0 0 ≡ 48) → ⊥) → IsReading (λ v. (v ≤ 65535) × (ds ≡ decimal v)) (result_ok r)
   parse_decimal {E} (Ok x) parsed lead =
       let told : ((0 < length ds) × (reading ds < 2 ^ 16)) × (x ≡ reading ds) = parse_digits rows {E = E} 16 ds (Ok x) parsed all in
-      let alone : get_or ds 0 0 ≡ 48 → length ds ≡ 1 = λ zero_first. ⊎_elim (λ e. e) (⊎_elim (λ low. absurd (omega (arith, told.0.0))) (λ high. absurd (lead (high, zero_first)))) (cases_order (length ds) 1) in
+      let alone : get_or ds 0 0 ≡ 48 → length ds ≡ 1 = λ zero_first. omega (arith, told.0.0, λ (long : 1 < length ds). lead (long, zero_first)) in
       (omega (arith, told.0.1, told.1), sym (decimal-digits_value rows ds all told.0.0 alone (omega (arith, told.0.1))) ∙ ap decimal (sym told.1))
   parse_decimal {E} (Err e) parsed lead =
       λ v (small, same). parse_digits rows {E = E} 16 ds (Err e) parsed all (omega (arith, ap length same, decimal_nonempty v (omega arith)), omega (arith, ap reading same, reading_decimal v small))

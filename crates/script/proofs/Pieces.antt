@@ -40,6 +40,14 @@ no_feeds_parts : (ps qs : List (List ℕ)) → NoFeeds (ps ++ qs) → NoFeeds ps
 no_feeds_parts [] qs h = (tt, h)
 no_feeds_parts (p ∷ ps) qs h = let rest = no_feeds_parts ps qs h.1 in ((h.0, rest.0), rest.1)
 
+line_answer : (line : List ℕ) (r : Answer) → 0 < length line → LineReads line r → NoFeed line → Answers (line ∷ []) (r ∷ [])
+line_answer [] r some reads clear = absurd (omega arith)
+line_answer (b ∷ bs) r some reads clear = (clear, reads, tt)
+
+empty_answer : (line : List ℕ) → length line ≡ 0 → Answers (line ∷ []) []
+empty_answer [] e = tt
+empty_answer (b ∷ bs) e = absurd (omega arith)
+
 pub none_answered : (answers : List Answer) → answers ≡ [] → Answered [] answers
 none_answered answers e = record { told = λ _. rw e tt }
 
@@ -51,19 +59,14 @@ module _ (pieces : List (Bor (List ℕ))) (piece : Bor (List ℕ)) (answers : Li
         answers_append (map (λ x. x.now) pieces) (piece.now ∷ []) answers new (so_far.told parts.0) (h parts.1.0));
   }
 
-  line_answer : (line : List ℕ) (r : Answer) → 0 < length line → LineReads line r → NoFeed line → Answers (line ∷ []) (r ∷ [])
-  line_answer [] r some reads clear = absurd (omega arith)
-  line_answer (b ∷ bs) r some reads clear = (clear, reads, tt)
-
-  empty_answer : (line : List ℕ) → length line ≡ 0 → Answers (line ∷ []) []
-  empty_answer [] e = tt
-  empty_answer (b ∷ bs) e = absurd (omega arith)
-
   pub empty_passed : length piece.now ≡ 0 → Answered (pieces ++ piece ∷ []) answers
   empty_passed e = subst (Answered (pieces ++ piece ∷ [])) (append-nil answers) (one_more [] (λ _. empty_answer piece.now e))
 
   pub line_answered : (r : Answer) → 0 < length piece.now → LineReads piece.now r → Answered (pieces ++ piece ∷ []) (answers ++ r ∷ [])
   line_answered r some reads = one_more (r ∷ []) (line_answer piece.now r some reads)
+
+-- what a turn of the loop over the pieces does
+pub ruleset answering = (none_answered, empty_passed, line_answered)
 
 -- the test for a line feed
 abbrev pub is_feed : ℕ → Bool

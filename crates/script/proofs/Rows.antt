@@ -11,6 +11,7 @@ use Rattle.std.proofs.lemmas.List.Sums.{prefix_len_stops, take_while-cons}
 use Rattle.script.specs.Tokens.{TokenAt}
 use Rattle.script.specs.declared.token.Token.TheVariants.{Number}
 
+-- a byte from 48 to 57 passes the test for a digit
 pub is_digit : (b : ℕ) → IsInRange 48 57 b → is_ascii_digit b ≡ true
 is_digit b h = and_from _ _ (le-leb 48 b h.0) (le-leb b 57 h.1)
 
@@ -37,8 +38,7 @@ pub number_token : (line rest : List ℕ) (at : ℕ) (x : Bor (List ℕ)) → re
 number_token line rest at x left row digit =
     let stops : is_ascii_digit (get_or rest (length x.now) 0) ≡ false = rw row (row_stops rest) in
     let last : get_or line (at + length x.now) 0 ≡ get_or rest (length x.now) 0 = sym (get_or-drop at line (length x.now) 0) ∙ ap (λ l. get_or l (length x.now) 0) (sym left) in
-    let some : 0 < length x.now =
-    ⊎_elim (λ low. low) (λ none. let size : length x.now ≡ 0 = omega arith in absurd (both_ways _ (ap (λ n. is_ascii_digit (get_or rest n 0)) (sym size) ∙ stops) (is_digit _ digit))) (cases_lt 0 (length x.now)) in
+    let some : 0 < length x.now = omega (arith, λ (none : length x.now ≡ 0). both_ways _ (ap (λ n. is_ascii_digit (get_or rest n 0)) (sym none) ∙ stops) (is_digit _ digit)) in
     let part : x.now ≡ take (length x.now) rest = rw (row, length-prefix_len) in
     record {
       place = refl;

@@ -23,7 +23,7 @@ impl<'a> Cursor<'a> {
         Cursor { line, at: 0 }
     }
 
-    // The place some bytes on.
+    // The place that many bytes further on.
     fn past(&self, count: usize) -> Self
         requires { count ≤ length (left self.now) }
         ensures { left result ≡ drop count (left self.now) }

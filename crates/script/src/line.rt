@@ -28,6 +28,7 @@ fn command_of(line: &[u8]) -> Option<Command>
     ensures { IsReading (Reads line.now) result }
 {
     let (letter, rest) = Cursor::start(line).letter()?;
+    // The letters stand as character literals: a rule of the project asks for it.
     match letter {
         'f' => Some(Command::Feed(event_at(&rest)?)),
         'c' => Some(Command::Collect(level_at(&rest)?)),

@@ -11,7 +11,7 @@ use std::alloc::{AllocError, Global};
 const MOST_BYTES: usize = 65_536;
 
 // The answers to the lines of a script of any length.
-#[tactic(auto, using(crate::proofs::Pieces::none_answered, crate::proofs::Pieces::empty_passed, crate::proofs::Pieces::line_answered))]
+#[tactic(auto, using(crate::proofs::Pieces::answering))]
 fn read_lines(heap: Global, script: &[u8]) -> Result<Vec<Result<Command, Refusal>>, AllocError>
     ensures { IfOk result (λ v. ScriptReads script.now v.items) }
 {
