@@ -20,7 +20,7 @@ fn event_at(cursor: &Cursor) -> Option<Event>
 fn level_at(cursor: &Cursor) -> Option<Level>
     ensures { IsReading (LastNumber (left cursor.now)) result }
 {
-    Some(Level::from(cursor.last_number()?))
+    cursor.last_number().map(Level::from)
 }
 
 // The command that a line writes out; nothing where it writes none out.
@@ -30,8 +30,8 @@ fn command_of(line: &[u8]) -> Option<Command>
     let (letter, rest) = Cursor::start(line).letter()?;
     // The letters stand as character literals: a rule of the project asks for it.
     match letter {
-        'f' => Some(Command::Feed(event_at(&rest)?)),
-        'c' => Some(Command::Collect(level_at(&rest)?)),
+        'f' => event_at(&rest).map(Command::Feed),
+        'c' => level_at(&rest).map(Command::Collect),
         _ => None,
     }
 }
