@@ -1,41 +1,20 @@
 -- Numbers in decimal.
-use Rattle.std.proofs.Common.{◌≡◌, ℕ, zero, suc, ◌+◌, ◌-◌, ◌*◌, ◌<◌, ◌≤◌, true, List, [], ◌∷◌, length, get_or, take, Ok, Err, decimal, fold, Option, Result, sym, refl, ap, ◌∙◌, subst, ⊎_elim, arith, length-take, MatchOption}
-use Rattle.std.specs.Result.{OkIff, result_ok}
-use Rattle.std.specs.Char.{is_ascii_digit}
+use Rattle.std.proofs.Common.{◌≡◌, ℕ, zero, suc, ◌^◌, ◌<◌, ◌≤◌, true, List, length, get_or, Ok, Err, decimal, Result, sym, ap, ◌∙◌, arith}
+use Rattle.std.specs.Result.{result_ok}
 use Rattle.std.specs.Int.{IsInRange}
-use Rattle.std.specs.Str.{all_ascii_digits}
-use Rattle.std.proofs.lemmas.Fmt.{digits_decimal, digits_value-decimal, decimal-digits_value, length-decimal-le, decimal_digit, first_decimal}
-use Rattle.std.proofs.lemmas.Str.Parse.{IsNumeralModel, numerals_by_fold, tells_all_ascii_digits, digit_at, digits_value_short}
-use Rattle.std.proofs.lemmas.List.Sums.{fold_more}
-use Rattle.std.proofs.lemmas.Bool.{and_parts, and_from, cases_order}
-use Rattle.script.specs.Fields.{reading, Canonical}
+use Rattle.std.specs.Str.{IsUtf8, all_ascii_digits}
+use Rattle.std.specs.Str.Parse.{ParsesUnsigned, digits_value}
+use Rattle.script.specs.Cursors.{IsReading}
+use Rattle.std.proofs.lemmas.Fmt.{IsAscii-from_digits, digits_decimal, digits_value-decimal, decimal-digits_value, decimal_digit, decimal_nonempty, first_decimal}
+use Rattle.std.proofs.lemmas.Str.{IsUtf8-from_ascii}
+use Rattle.std.proofs.lemmas.Str.Parse.{IsNumeralModel, numerals_by_value, tells_all_ascii_digits, digit_at, parse_digits}
 
--- `reading` is the number that digits write out
+-- what digits are read as in base ten
+abbrev pub reading : List ℕ → ℕ
+reading = digits_value 10
+
 rows : IsNumeralModel (λ ds. all_ascii_digits ds ≡ true) reading
-rows = numerals_by_fold _ tells_all_ascii_digits (fold (λ n d. n * 10 + (d - 48))) (record { empty = λ n. refl; more = λ n d ds h. refl })
-
-digits_take : (n : ℕ) (ds : List ℕ) → all_ascii_digits ds ≡ true → all_ascii_digits (take n ds) ≡ true
-digits_take zero ds h = refl
-digits_take (suc n) [] h = refl
-digits_take (suc n) (d ∷ ds) h =
-    let p = and_parts (is_ascii_digit d) (all_ascii_digits ds) h in and_from (is_ascii_digit d) (all_ascii_digits (take n ds)) p.0 (digits_take n ds p.1)
-
-module _ (ds : List ℕ) (all : all_ascii_digits ds ≡ true) where
-  pub digit_in : (i : ℕ) → i < length ds → IsInRange 48 57 (get_or ds i 0)
-  digit_in i h = digit_at ds i (rows.to ds all) h
-
-  -- what is read before the last of at most five digits
-  pub reading_below : (i : ℕ) → i < length ds → length ds ≤ 5 → reading (take i ds) < 10000
-  reading_below i h five = digits_value_short rows (take i ds) 4 (digits_take i ds all) (omega (arith, length-take i ds))
-
-  -- digits with no leading zero, or just a zero, are the decimal of what they are read as
-  canonical : 0 < length ds → (1 < length ds → get_or ds 0 0 ≡ 48 → ⊥) → reading ds ≤ 65535 → ds ≡ decimal (reading ds)
-  canonical some lead small =
-      sym (decimal-digits_value rows ds all some (λ zero_first. ⊎_elim (λ e. e) (⊎_elim (λ low. absurd (omega arith)) (λ high. absurd (lead high zero_first))) (cases_order (length ds) 1)) (omega arith))
-
--- one digit more is read
-pub reading_more : (ds : List ℕ) (i : ℕ) → i < length ds → reading (take (i + 1) ds) ≡ reading (take i ds) * 10 + (get_or ds i 0 - 48)
-reading_more ds i h = fold_more (λ n d. n * 10 + (d - 48)) 0 ds i 0 h
+rows = numerals_by_value _ tells_all_ascii_digits
 
 module _ (v : ℕ) (small : v ≤ 65535) where
   pub decimal_digits : all_ascii_digits (decimal v) ≡ true
@@ -44,21 +23,26 @@ module _ (v : ℕ) (small : v ≤ 65535) where
   pub reading_decimal : reading (decimal v) ≡ v
   reading_decimal = digits_value-decimal rows v (omega arith)
 
-  decimal_short : length (decimal v) ≤ 5
-  decimal_short = length-decimal-le 5 v (omega arith) (omega arith) (omega arith)
-
 -- a decimal of several digits does not begin with a zero
 decimal_lead : (v : ℕ) → v ≤ 65535 → 1 < length (decimal v) → get_or (decimal v) 0 0 ≡ 48 → ⊥
 decimal_lead zero small long lead = omega (arith, ap length (decimal_digit 0 (omega arith)))
 decimal_lead (suc v) small long lead = omega (arith, first_decimal (suc v) (omega arith) (omega arith))
 
--- the decimal of a number is canonical
-pub decimal_canonical : (ds : List ℕ) → (Canonical ds → ⊥) → (v : ℕ) → v ≤ 65535 → ds ≡ decimal v → ⊥
-decimal_canonical ds not v small e = not (subst Canonical (sym e) (decimal_short v small, decimal_lead v small))
+pub leading_zero : (ds : List ℕ) → (1 < length ds) × (get_or ds 0 0 ≡ 48) → (v : ℕ) → ¬ ((v ≤ 65535) × (ds ≡ decimal v))
+leading_zero ds zero_first v (small, e) = decimal_lead v small (omega (arith, ap length e, zero_first.0)) (sym (ap (λ l. get_or l 0 0) e) ∙ zero_first.1)
 
--- what canonical digits are read as, where it fits, is the number that they write out
-pub read_as : {E : Type 0} (ds : List ℕ) (r : Result ℕ E) (o : Option ℕ) (n : ℕ) → all_ascii_digits ds ≡ true → 0 < length ds → Canonical ds → n ≡ reading ds → OkIff r (n < 65536) n → o ≡ result_ok r → MatchOption o ((v : ℕ) → v ≤ 65535 → ds ≡ decimal v → ⊥) (λ v. (v ≤ 65535) × (ds ≡ decimal v))
-read_as ds (Ok x) o n all some fine e (small, same) is =
-    let f : x ≡ reading ds = same ∙ e in rw is (omega arith, canonical ds all some fine.1 (omega arith) ∙ ap decimal (sym f))
-read_as ds (Err d) o n all some fine e h is =
-    rw is (λ v small same. h (omega (arith, e, ap reading same, reading_decimal v small)))
+module _ (ds : List ℕ) (all : all_ascii_digits ds ≡ true) where
+  pub digit_in : (i : ℕ) → i < length ds → IsInRange 48 57 (get_or ds i 0)
+  digit_in i h = digit_at ds i (rows.to ds all) h
+
+  pub digits_utf8 : IsUtf8 ds
+  digits_utf8 = IsUtf8-from_ascii ds (IsAscii-from_digits ds (rows.to ds all))
+
+  -- what parsing digits with no leading zero gives is the number that they write out
+  pub parse_decimal : {E : Type 0} (r : Result ℕ E) → ParsesUnsigned 16 10 ds r → ((1 < length ds) × (get_or ds 0 0 ≡ 48) → ⊥) → IsReading (λ v. (v ≤ 65535) × (ds ≡ decimal v)) (result_ok r)
+  parse_decimal {E} (Ok x) parsed lead =
+      let told : ((0 < length ds) × (reading ds < 2 ^ 16)) × (x ≡ reading ds) = parse_digits rows {E = E} 16 ds (Ok x) parsed all in
+      let alone : get_or ds 0 0 ≡ 48 → length ds ≡ 1 = λ zero_first. omega (arith, told.0.0, λ (long : 1 < length ds). lead (long, zero_first)) in
+      (omega (arith, told.0.1, told.1), sym (decimal-digits_value rows ds all told.0.0 alone (omega (arith, told.0.1))) ∙ ap decimal (sym told.1))
+  parse_decimal {E} (Err e) parsed lead =
+      λ v (small, same). parse_digits rows {E = E} 16 ds (Err e) parsed all (omega (arith, ap length same, decimal_nonempty v (omega arith)), omega (arith, ap reading same, reading_decimal v small))

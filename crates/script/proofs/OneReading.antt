@@ -4,10 +4,9 @@ use Rattle.event.proofs.Asking.{never_both, one_first}
 use Rattle.event.proofs.Numbers.{distinct_numbers}
 use Rattle.event.specs.Refusals.{refusal_number}
 use Rattle.script.specs.Commands.{LineReads, line_questions, OneCommand}
-use Rattle.script.specs.Fields.{reading}
 use Rattle.script.specs.Scripts.{with_feeds, NoFeed, Answers, OneReading}
 use Rattle.script.specs.declared.command.Command.TheVariants.{Feed, Collect}
-use Rattle.script.proofs.Decimals.{decimal_digits, reading_decimal}
+use Rattle.script.proofs.Decimals.{reading, decimal_digits, reading_decimal}
 use Rattle.script.proofs.Pieces.{Answer, no_answers}
 use Rattle.script.proofs.Splits.{same_row}
 

@@ -1,10 +1,12 @@
--- The pieces of a script, read from its front.
-use Rattle.std.proofs.Common.{◌≡◌, ℕ, zero, suc, ◌+◌, ◌-◌, ◌<◌, List, [], ◌∷◌, ◌++◌, length, get_or, take, drop, Result, sym, refl, ap, ◌∙◌, subst, ⊎_elim, append_assoc, append-nil, arith, length-append, take-append-drop}
-use Rattle.std.proofs.lemmas.List.{length-take-le, drop_more, drop_all, take_all}
-use Rattle.std.proofs.lemmas.Bool.{cases_lt}
+-- The pieces of a script, and the answers to them.
+use Rattle.std.proofs.Common.{◌≡◌, ℕ, ◌<◌, ◌≢◌, Bool, List, [], ◌∷◌, ◌++◌, length, map, Result, refl, ap, ◌∙◌, subst, ⊎_elim, append-nil, arith, length-append, Bor}
+use Rattle.std.specs.Bool.{◌==◌}
+use Rattle.std.specs.List.{AllByRecursion, slice_split, onto_first, join_with_byte}
+use Rattle.std.proofs.lemmas.Bool.{cases_Bool, eqb-false}
+use Rattle.std.proofs.lemmas.List.{map-append}
+use Rattle.std.proofs.lemmas.List.Splits.{slice_split-cons_yes, slice_split-cons_no, join_with_byte-slice_split}
 use Rattle.event.specs.declared.Refusal.{Refusal}
 use Rattle.script.specs.Commands.{LineReads}
-use Rattle.script.specs.Ends.{FirstLine, Answered}
 use Rattle.script.specs.Scripts.{with_feeds, NoFeed, Answers, ScriptReads}
 use Rattle.script.specs.declared.command.Command.{Command}
 
@@ -12,21 +14,13 @@ use Rattle.script.specs.declared.command.Command.{Command}
 abbrev pub Answer : Type 0
 Answer = Result Command Refusal
 
--- the answers so far, with any answers to the rest, are answers to the script
-pub record GoesOn (script rest : List ℕ) (answers : List Answer) : Type 0 where
-  pub with_more : (more : List Answer) → ScriptReads rest more → ScriptReads script (answers ++ more)
+-- no piece has a line feed
+abbrev pub NoFeeds : List (List ℕ) → Type 0
+NoFeeds = AllByRecursion NoFeed
 
-pub none_read : (script : List ℕ) (answers : List Answer) → answers ≡ [] → GoesOn script script answers
-none_read script answers e = rw e (record { with_more = λ more h. h })
-
-pub all_read : (script rest : List ℕ) (answers : List Answer) → GoesOn script rest answers → length rest ≡ 0 → ScriptReads script answers
-all_read script [] answers h e = subst (ScriptReads script) (append-nil answers) (h.with_more [] ([], refl, tt))
-all_read script (b ∷ rest) answers h e = absurd (omega arith)
-
-no_feed_take : (text : List ℕ) (n : ℕ) → ((k : ℕ) → k < n → get_or text k 0 ≡ 10 → ⊥) → NoFeed (take n text)
-no_feed_take text zero h = tt
-no_feed_take [] (suc n) h = tt
-no_feed_take (b ∷ text) (suc n) h = (h 0 (omega arith), no_feed_take text n (λ k l. h (suc k) (omega arith)))
+-- the pieces so far, if none has a line feed, have these answers
+pub record Answered (pieces : List (Bor (List ℕ))) (answers : List Answer) : Type 0 where
+  pub told : NoFeeds (map (λ x. x.now) pieces) → Answers (map (λ x. x.now) pieces) answers
 
 -- pieces of an empty text have no answers
 pub no_answers : (ps : List (List ℕ)) (rs : List Answer) → with_feeds ps ≡ [] → Answers ps rs → Answers [] rs
@@ -35,51 +29,67 @@ no_answers ([] ∷ []) rs e h = h
 no_answers ((b ∷ bs) ∷ []) rs e h = absurd (omega (arith, ap length e))
 no_answers (p ∷ q ∷ ps) rs e h = absurd (omega (arith, ap length e, length-append p (10 ∷ with_feeds (q ∷ ps))))
 
-answered : (line : List ℕ) (r : Answer) (ps : List (List ℕ)) (rs : List Answer) → 0 < length line → NoFeed line → LineReads line r → Answers ps rs → Answers (line ∷ ps) (r ∷ rs)
-answered [] r ps rs some clear reads h = absurd (omega arith)
-answered (b ∷ bs) r ps rs some clear reads h = (clear, reads, h)
+answers_append : (ps qs : List (List ℕ)) (rs ss : List Answer) → Answers ps rs → Answers qs ss → Answers (ps ++ qs) (rs ++ ss)
+answers_append [] qs [] ss h k = k
+answers_append [] qs (r ∷ rs) ss h k = absurd h
+answers_append ([] ∷ ps) qs rs ss h k = answers_append ps qs rs ss h k
+answers_append ((b ∷ bs) ∷ ps) qs [] ss h k = absurd h
+answers_append ((b ∷ bs) ∷ ps) qs (r ∷ rs) ss h k = (h.0, h.1, answers_append ps qs rs ss h.2 k)
 
-module _ {text : List ℕ} {end : ℕ} (first : FirstLine text end) where
-  cut_feed : end < length text → take end text ++ (10 ∷ drop (end + 1) text) ≡ text
-  cut_feed l =
-      ap (λ b. take end text ++ (b ∷ drop (end + 1) text)) (sym (first.found l)) ∙ ap (λ l. take end text ++ l) (sym (drop_more text end 0 l)) ∙ take-append-drop end text
+no_feeds_parts : (ps qs : List (List ℕ)) → NoFeeds (ps ++ qs) → NoFeeds ps × NoFeeds qs
+no_feeds_parts [] qs h = (tt, h)
+no_feeds_parts (p ∷ ps) qs h = let rest = no_feeds_parts ps qs h.1 in ((h.0, rest.0), rest.1)
 
-  -- pieces of what follows the first line, with that line before them
-  pieces_more : (rs : List Answer) → ScriptReads (drop (end + 1) text) rs → (ps : List (List ℕ)) × (with_feeds (take end text ∷ ps) ≡ text) × Answers ps rs
-  pieces_more rs ([], e, h) =
-      ⊎_elim (λ l. ([] ∷ [], ap (λ l. take end text ++ (10 ∷ l)) e ∙ cut_feed l, h)) (λ l. ([], take_all end text l, h)) (cases_lt end (length text))
-  pieces_more rs (q ∷ ps, e, h) =
-      ⊎_elim
-      (λ l. (q ∷ ps, ap (λ l. take end text ++ (10 ∷ l)) e ∙ cut_feed l, h))
-      (λ l. ([], take_all end text l, no_answers (q ∷ ps) rs (e ∙ drop_all (end + 1) text (omega arith)) h))
-      (cases_lt end (length text))
+line_answer : (line : List ℕ) (r : Answer) → 0 < length line → LineReads line r → NoFeed line → Answers (line ∷ []) (r ∷ [])
+line_answer [] r some reads clear = absurd (omega arith)
+line_answer (b ∷ bs) r some reads clear = (clear, reads, tt)
 
-  module _ {script : List ℕ} {was : List Answer} (so_far : GoesOn script text was) where
-    passed : end ≡ 0 → GoesOn script (drop (end + 1) text) was
-    passed none = record {
-      with_more = λ more h.
-          let p = pieces_more more h in
-          so_far.with_more more (take end text ∷ p.0, p.1, subst (λ n. Answers (take n text ∷ p.0) more) (sym none) p.2);
-    }
+empty_answer : (line : List ℕ) → length line ≡ 0 → Answers (line ∷ []) []
+empty_answer [] e = tt
+empty_answer (b ∷ bs) e = absurd (omega arith)
 
-    taken : (r : Answer) → 0 < length (take end text) → LineReads (take end text) r → GoesOn script (drop (end + 1) text) (was ++ r ∷ [])
-    taken r long reads = record {
-      with_more = λ more h.
-          let p = pieces_more more h in
-          rw append_assoc
-          (so_far.with_more (r ∷ more) (take end text ∷ p.0, p.1, answered (take end text) r p.0 more long (no_feed_take text end first.before) reads p.2));
-    }
+pub none_answered : (answers : List Answer) → answers ≡ [] → Answered [] answers
+none_answered answers e = record { told = λ _. rw e tt }
 
-    either_way : (answers : List Answer) → Answered (take end text) was answers → GoesOn script (drop (end + 1) text) answers
-    either_way answers told =
-        let size : length (take end text) ≡ end = length-take-le end text first.within in
-        ⊎_elim
-        (λ some. let long : 0 < length (take end text) = omega arith in let p = told.1 long in rw p.2 (taken p.0 long p.1))
-        (λ low. let none : end ≡ 0 = omega arith in rw (told.0 (omega arith)) (passed none))
-        (cases_lt 0 end)
+module _ (pieces : List (Bor (List ℕ))) (piece : Bor (List ℕ)) (answers : List Answer) (so_far : Answered pieces answers) where
+  one_more : (new : List Answer) → (NoFeed piece.now → Answers (piece.now ∷ []) new) → Answered (pieces ++ piece ∷ []) (answers ++ new)
+  one_more new h = record {
+    told = rw map-append
+        (λ clear. let parts = no_feeds_parts (map (λ x. x.now) pieces) (piece.now ∷ []) clear in
+        answers_append (map (λ x. x.now) pieces) (piece.now ∷ []) answers new (so_far.told parts.0) (h parts.1.0));
+  }
 
-    -- one line more is answered
-    pub line_read : {rest : List ℕ} {answers : List Answer} → rest ≡ drop (end + 1) text → Answered (take (end - 0) text) was answers → GoesOn script rest answers
-    line_read {rest} {answers} left told =
-        let whole : end - 0 ≡ end = omega arith in
-        rw left (either_way answers (subst (λ n. Answered (take n text) was answers) whole told))
+  pub empty_passed : length piece.now ≡ 0 → Answered (pieces ++ piece ∷ []) answers
+  empty_passed e = subst (Answered (pieces ++ piece ∷ [])) (append-nil answers) (one_more [] (λ _. empty_answer piece.now e))
+
+  pub line_answered : (r : Answer) → 0 < length piece.now → LineReads piece.now r → Answered (pieces ++ piece ∷ []) (answers ++ r ∷ [])
+  line_answered r some reads = one_more (r ∷ []) (line_answer piece.now r some reads)
+
+-- what a turn of the loop over the pieces does
+pub ruleset answering = (none_answered, empty_passed, line_answered)
+
+-- the test for a line feed
+abbrev pub is_feed : ℕ → Bool
+is_feed b = b == 10
+
+onto_first_no_feed : (b : ℕ) (ps : List (List ℕ)) → b ≢ 10 → NoFeeds ps → NoFeeds (onto_first b ps)
+onto_first_no_feed b [] h k = ((h, tt), tt)
+onto_first_no_feed b (p ∷ ps) h k = ((h, k.0), k.1)
+
+split_no_feeds : (bytes : List ℕ) → NoFeeds (slice_split is_feed bytes)
+split_no_feeds [] = (tt, tt)
+split_no_feeds (b ∷ bytes) =
+    ⊎_elim
+    (λ yes. rw (slice_split-cons_yes is_feed b bytes yes) (tt, split_no_feeds bytes))
+    (λ no. rw (slice_split-cons_no is_feed b bytes no) (onto_first_no_feed b _ (eqb-false b 10 no) (split_no_feeds bytes)))
+    (cases_Bool (is_feed b))
+
+with_feeds_join : (ps : List (List ℕ)) → with_feeds ps ≡ join_with_byte 10 ps
+with_feeds_join [] = refl
+with_feeds_join (p ∷ []) = refl
+with_feeds_join (p ∷ q ∷ ps) = ap (λ text. p ++ (10 ∷ text)) (with_feeds_join (q ∷ ps))
+
+-- the pieces between the line feeds of a script are answered
+pub all_answered : (script : List ℕ) (pieces : List (Bor (List ℕ))) (answers : List Answer) → map (λ x. x.now) pieces ≡ slice_split is_feed script → Answered pieces answers → ScriptReads script answers
+all_answered script pieces answers e h =
+    (slice_split is_feed script, with_feeds_join (slice_split is_feed script) ∙ join_with_byte-slice_split 10 script, subst (λ ps. Answers ps answers) e (h.told (rw e (split_no_feeds script))))

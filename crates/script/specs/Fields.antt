@@ -1,15 +1,7 @@
 -- How a line goes on at a place.
-use Rattle.std.specs.Prelude.{◌≡◌, ℕ, ◌+◌, ◌-◌, ◌*◌, ◌<◌, ◌≤◌, false, List, ◌∷◌, ◌++◌, length, decimal, fold, ◌≢◌, slice_index}
+use Rattle.std.specs.Prelude.{◌≡◌, ℕ, ◌≤◌, false, List, ◌∷◌, ◌++◌, decimal, ◌≢◌, slice_index}
 use Rattle.std.specs.Char.{is_ascii_digit}
 use Rattle.event.specs.declared.Event.{Event}
-
--- what digits are read as in base ten
-abbrev pub reading : List ℕ → ℕ
-reading ds = fold (λ n d. n * 10 + (d - 48)) 0 ds
-
--- at most five digits, with no zero before others
-abbrev pub Canonical : List ℕ → Type 0
-Canonical ds = (length ds ≤ 5) × (1 < length ds → slice_index ds 0 ≢ 48)
 
 -- some bytes are a number in decimal and then a rest that does not begin with a digit
 abbrev pub NumberThen : List ℕ → ℕ → List ℕ → Type 0

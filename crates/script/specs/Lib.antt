@@ -1,5 +1,5 @@
 pub mod Commands
-pub mod Ends
+pub mod Cursors
 pub mod Fields
 pub mod Scripts
 pub mod Tokens

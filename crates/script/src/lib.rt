@@ -2,6 +2,7 @@
 #![tactic(auto)]
 
 pub mod command;
+mod cursor;
 pub mod line;
 pub mod lines;
 mod number;

@@ -1,46 +1,37 @@
 // A line of a script as the command that it writes out.
-ghost use Rattle.std.specs.Prelude.{ℕ, List, drop, MatchOption};
 ghost use Rattle.script.specs.Commands.{Reads, LineReads, OneCommand};
-ghost use Rattle.script.specs.Fields.{LetterThen, EventFields, LastNumber};
+ghost use Rattle.script.specs.Cursors.{left, IsReading};
+ghost use Rattle.script.specs.Fields.{EventFields, LastNumber};
 
 use crate::command::Command;
-use crate::number::{last_number, spaced_number};
-use crate::token::{Token, token_at};
+use crate::cursor::Cursor;
 use event::{Event, Level, Refusal};
 
-// The letter that a line begins with; nothing where it begins otherwise.
-fn first_letter(line: &[u8]) -> Option<u8>
-    ensures { MatchOption result ((b : ℕ) (rest : List ℕ) → LetterThen line.now b rest → ⊥) (λ b. LetterThen line.now b (drop 1 line.now)) }
-{
-    match token_at(line, 0)? {
-        Token::Letter { text, .. } => Some(text[0]),
-        _ => None,
-    }
-}
-
 // The event that a line writes out after its letter; nothing where it goes on otherwise.
-fn event_after_letter(line: &[u8]) -> Option<Event>
-    ensures { MatchOption result ((e : Event) → EventFields (drop 1 line.now) e → ⊥) (λ e. EventFields (drop 1 line.now) e) }
+fn event_at(cursor: &Cursor) -> Option<Event>
+    ensures { IsReading (EventFields (left cursor.now)) result }
 {
-    let (channel, end) = spaced_number(line, 1)?;
-    let value = last_number(line, end)?;
+    let (channel, rest) = cursor.spaced_number()?;
+    let value = rest.last_number()?;
     Some(Event { channel, value })
 }
 
 // The level that a line writes out after its letter; nothing where it goes on otherwise.
-fn level_after_letter(line: &[u8]) -> Option<Level>
-    ensures { MatchOption result ((v : ℕ) → LastNumber (drop 1 line.now) v → ⊥) (λ v. LastNumber (drop 1 line.now) v) }
+fn level_at(cursor: &Cursor) -> Option<Level>
+    ensures { IsReading (LastNumber (left cursor.now)) result }
 {
-    Some(Level::from(last_number(line, 1)?))
+    cursor.last_number().map(Level::from)
 }
 
 // The command that a line writes out; nothing where it writes none out.
 fn command_of(line: &[u8]) -> Option<Command>
-    ensures { MatchOption result ((c : Command) → Reads line.now c → ⊥) (λ c. Reads line.now c) }
+    ensures { IsReading (Reads line.now) result }
 {
-    match char::from(first_letter(line)?) {
-        'f' => Some(Command::Feed(event_after_letter(line)?)),
-        'c' => Some(Command::Collect(level_after_letter(line)?)),
+    let (letter, rest) = Cursor::start(line).letter()?;
+    // The letters stand as character literals: a rule of the project asks for it.
+    match letter {
+        'f' => event_at(&rest).map(Command::Feed),
+        'c' => level_at(&rest).map(Command::Collect),
         _ => None,
     }
 }
@@ -49,13 +40,6 @@ fn command_of(line: &[u8]) -> Option<Command>
 pub fn read_line(line: &[u8]) -> Result<Command, Refusal>
     ensures reads { LineReads line.now result }
     ensures one { OneCommand }
-{
-    answer_to(line)
-}
-
-// The command that a line is, or the refusal.
-fn answer_to(line: &[u8]) -> Result<Command, Refusal>
-    ensures { LineReads line.now result }
 {
     command_of(line).ok_or(Refusal::UnreadableLine)
 }

@@ -1,5 +1,5 @@
 use Rattle.script.proofs.OneReading.{one_command}
 use Rattle.script.proofs.line.read_line.Goals as goal
 
-pub returns : goal.returns
-returns c = record { reads = c.answer_to.ensures; one = one_command }
+pub returns-clause-one : goal.returns-clause-one
+returns-clause-one c = one_command
