@@ -12,12 +12,18 @@ pub enum Token<'a> {
     Blank { text: &'a [u8], place: usize },
 }
 
+// How many digits a text begins with.
+fn digit_count(text: &[u8]) -> usize
+    ensures { result ≡ length (take_while is_ascii_digit text.now) }
+{
+    text.iter().take_while(|byte| byte.is_ascii_digit()).count()
+}
+
 // The row of digits that a text begins with.
 fn leading_digits(text: &[u8]) -> &[u8]
     ensures { result.now ≡ take_while is_ascii_digit text.now }
 {
-    let count = text.iter().take_while(|byte| byte.is_ascii_digit()).count();
-    &text[..count]
+    &text[..digit_count(text)]
 }
 
 // The token at a place of the line; nothing at or past its end.
