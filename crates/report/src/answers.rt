@@ -13,7 +13,6 @@ pub(crate) fn events_of(
 ) -> Result<Vec<Event>, AllocError>
     ensures { IfOk result (λ v. v.items ≡ events_of answers.now) }
 {
-    // no chain: the closure of `filter_map` would be this test as a `match`
     let mut events = Vec::new(heap);
     for answer in answers {
         if let Ok(Command::Feed(event)) = answer {

@@ -5,7 +5,8 @@ ghost use Rattle.report.specs.Reports.{seen_line};
 use event::Event;
 use std::fmt;
 
-// What a level sees of an event, and whether that is the whole event.
+// What a level sees of an event, and whether that is the whole event: two facts, both of which are
+// printed, and no flag that says whether there is an event.
 #[derive(Clone, Copy)]
 pub(crate) struct SeenEvent {
     pub(crate) event: Event,

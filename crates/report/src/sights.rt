@@ -22,19 +22,19 @@ pub fn sights_report(heap: Global, plan_file: &[u8], script: &[u8]) -> Result<St
 {
     let mut plan = Plan::new();
     match plan.read(plan_file) {
-        Ok(()) => Ok(script_report(heap, &plan, script)?),
+        Ok(()) => script_report(heap, &plan, script),
         Err(refusal) => Ok(RefusalLine(refusal).to_string(heap)?),
     }
 }
 
 // The text for a script under a plan.
-fn script_report(heap: Global, plan: &Plan, script: &[u8]) -> Result<String, AllocError>
-    ensures { IfOk result (λ s. ScriptReport (model plan.now) script.now (string_bytes s)) }
+fn script_report(heap: Global, plan: &Plan, script: &[u8]) -> Result<String, Refusal>
+    ensures { MatchResult result (λ s. ScriptReport (model plan.now) script.now (string_bytes s)) (λ e. e ≡ OutOfMemory) }
 {
     match read_script(heap, script) {
-        Ok(answers) => answers_text(heap, plan, &answers),
-        Err(Refusal::OutOfMemory) => Err(AllocError),
-        Err(too_long) => RefusalLine(too_long).to_string(heap),
+        Ok(answers) => Ok(answers_text(heap, plan, &answers)?),
+        Err(Refusal::OutOfMemory) => Err(Refusal::OutOfMemory),
+        Err(too_long) => Ok(RefusalLine(too_long).to_string(heap)?),
     }
 }
 
