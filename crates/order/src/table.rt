@@ -73,10 +73,17 @@ impl Order for OrderTable {
 struct Relation<'a> {
     levels: usize,
     rows: &'a Rows,
-    ghost few: { levels ≤ 8 },
 }
 
 impl Relation<'_> {
+    // Whether a is below b by the table, which says false beyond its end.
+    fn below(&self, a: Level, b: Level) -> bool
+        ensures { result ≡ table_entry self.now.rows.now a b }
+    {
+        let rows = self.rows;
+        rows.get(a).is_some_and(|row| row.get(b) == Some(&true))
+    }
+
     // Whether the relation is a partial order.
     fn is_partial_order(&self) -> bool
         ensures { IsTrue result ↔ PartialOrder self.now.levels (table_entry self.now.rows.now) }
@@ -86,7 +93,6 @@ impl Relation<'_> {
 
     // Whether level a and each level are as a partial order has them.
     fn is_row_ordered(&self, a: Level) -> bool
-        requires { a < self.now.levels }
         ensures { IsTrue result ↔ ((b : ℕ) → b < self.now.levels → PairOrdered self.now.levels (table_entry self.now.rows.now) a b) }
     {
         (0..self.levels).all(|b| self.is_pair_ordered(a, b))
@@ -94,23 +100,18 @@ impl Relation<'_> {
 
     // Whether levels a and b are as a partial order has them.
     fn is_pair_ordered(&self, a: Level, b: Level) -> bool
-        requires row { a < self.now.levels }
-        requires column { b < self.now.levels }
         ensures { IsTrue result ↔ PairOrdered self.now.levels (table_entry self.now.rows.now) a b }
     {
-        let rows = self.rows;
         if a == b {
-            return rows[a][b];
+            return self.below(a, b);
         }
-        !rows[a][b] || !rows[b][a] && self.is_transitive_at(a, b)
+        !self.below(a, b) || !self.below(b, a) && self.is_transitive_at(a, b)
     }
 
     // Whether level a is below whatever level b is below.
     fn is_transitive_at(&self, a: Level, b: Level) -> bool
-        requires row { a < self.now.levels }
-        requires column { b < self.now.levels }
         ensures { IsTrue result ↔ ((c : ℕ) → c < self.now.levels → IsTrue (table_entry self.now.rows.now b c) → IsTrue (table_entry self.now.rows.now a c)) }
     {
-        (0..self.levels).all(|c| !self.rows[b][c] || self.rows[a][c])
+        (0..self.levels).all(|c| !self.below(b, c) || self.below(a, c))
     }
 }
