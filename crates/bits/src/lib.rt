@@ -12,10 +12,8 @@ fn read_bit(file: &[u8], at: usize, k: usize) -> u16
 {
     // at + k could overflow; counted from the start of its byte it cannot
     let place = at % 8 + k;
-    match file.get(at / 8 + place / 8) {
-        Some(byte) => u16::from((*byte >> (7 - place % 8)) % 2),
-        None => 0,
-    }
+    file.get(at / 8 + place / 8)
+        .map_or(0, |byte| u16::from((*byte >> (7 - place % 8)) % 2))
 }
 
 // The number in the `width` bits from bit `at` on, at most 16 of them.

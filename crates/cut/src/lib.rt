@@ -47,8 +47,5 @@ fn left_by(cut: Cut, value: u16) -> Option<u16>
 fn step_down(step: u16, value: u16) -> u16
     ensures { result ≡ value - value % step }
 {
-    match value.checked_rem(step) {
-        Some(rest) => value - rest,
-        None => 0,
-    }
+    value.checked_rem(step).map_or(0, |rest| value - rest)
 }

@@ -1,5 +1,6 @@
 -- A plan has at most one file.
 use Rattle.std.proofs.Common.{◌≡◌, ℕ, zero, suc, ◌+◌, ◌-◌, ◌*◌, ◌/◌, ◌%◌, ◌<◌, ◌≤◌, eqb, List, length, sym, refl, ap, ◌∙◌, subst, mod-lt, div-add-mod', arith}
+use Rattle.std.proofs.lemmas.Bool.Decides.{nat_tests}
 use native.Mathlib.Decide.{dec_lt}
 use Rattle.std.proofs.lemmas.Nat.{div_below}
 use Rattle.std.proofs.lemmas.List.{same_lists, get_or_default}
@@ -13,13 +14,11 @@ use Rattle.cut.specs.declared.Cut.TheVariants.{Hidden, Bare, Mask, Step}
 
 -- one bit, by whether it is 1
 same_bit : (x y : ℕ) → x < 2 → y < 2 → eqb x 1 ≡ eqb y 1 → x ≡ y
-same_bit zero zero hx hy e = refl
-same_bit zero (suc zero) hx hy e = absurd (let z : ◌≡◌ {A = ℕ} 0 1 = cc in omega arith)
-same_bit zero (suc (suc y)) hx hy e = absurd (omega arith)
-same_bit (suc zero) zero hx hy e = absurd (let z : ◌≡◌ {A = ℕ} 0 1 = cc in omega arith)
-same_bit (suc zero) (suc zero) hx hy e = refl
-same_bit (suc zero) (suc (suc y)) hx hy e = absurd (omega arith)
-same_bit (suc (suc x)) y hx hy e = absurd (omega arith)
+same_bit x y hx hy e = grind (arith, nat_tests)
+
+-- what holds below a bound and from it on
+cases : {A : Type 0} (j k : ℕ) → (j < k → A) → (k ≤ j → A) → A
+cases j k below from = elim (dec_lt j k) [ yes l ↦ below l | no n ↦ from (omega arith) ]
 
 -- a cut has one kind and one lawful number
 kind_of : Cut → ℕ
@@ -93,16 +92,10 @@ module _ (f g : List ℕ) (n i o : ℕ) (P : PlanModel) (some : 1 ≤ n) (sf : S
 
   sizes : (j : ℕ) → j < 16 → bit f j ≡ bit g j
   sizes j h =
-      elim (dec_lt j 3) [
-        | yes l ↦ in_field 0 3 j (omega (arith, sf.levels, sg.levels)) (omega arith) (omega arith)
-        | no l3 ↦ elim (dec_lt j 8) [
-          | yes l ↦ in_field 3 5 j (omega (arith, sf.inputs, sg.inputs)) (omega arith) (omega arith)
-          | no l8 ↦ elim (dec_lt j 13) [
-            | yes l ↦ in_field 8 5 j (omega (arith, sf.outputs, sg.outputs)) (omega arith) (omega arith)
-            | no l13 ↦ in_field 13 3 j (sf.spare ∙ sym sg.spare) (omega arith) (omega arith)
-          ]
-        ]
-      ]
+      cases j 3 (λ l. in_field 0 3 j (omega (arith, sf.levels, sg.levels)) (omega arith) (omega arith)) (λ l3.
+      cases j 8 (λ l. in_field 3 5 j (omega (arith, sf.inputs, sg.inputs)) (omega arith) (omega arith)) (λ l8.
+      cases j 13 (λ l. in_field 8 5 j (omega (arith, sf.outputs, sg.outputs)) (omega arith) (omega arith))
+      (λ l13. in_field 13 3 j (sf.spare ∙ sym sg.spare) (omega arith) (omega arith))))
 
   order : (j : ℕ) → 16 ≤ j → j < input_levels_at n → bit f j ≡ bit g j
   order j lo hi =
@@ -142,7 +135,7 @@ module _ (f g : List ℕ) (n i o : ℕ) (P : PlanModel) (some : 1 ≤ n) (sf : S
       sym (kind_back _ (field f (at + 2) 16) (field_lt f at 2)) ∙ ap kind_of same ∙ kind_back _ (field g (at + 2) 16) (field_lt g at 2) in
       let numbers : field f (at + 2) 16 ≡ field g (at + 2) 16 =
       sym (number_back (field f at 2) _ (sf.lawful c l hc hl)) ∙ ap number_of same ∙ number_back (field g at 2) _ (sg.lawful c l hc hl) in
-      elim (dec_lt j (at + 2)) [ yes h ↦ in_field at 2 j kinds (omega arith) (omega arith) | no h ↦ in_field (at + 2) 16 j numbers (omega arith) (omega arith) ]
+      cases j (at + 2) (λ h. in_field at 2 j kinds (omega arith) (omega arith)) (λ h. in_field (at + 2) 16 j numbers (omega arith) (omega arith))
 
   padding_bits : (j : ℕ) → end_at n i o ≤ j → j < 8 * length f → bit f j ≡ bit g j
   padding_bits j lo hi =
@@ -153,22 +146,11 @@ module _ (f g : List ℕ) (n i o : ℕ) (P : PlanModel) (some : 1 ≤ n) (sf : S
 
   all_bits : (j : ℕ) → j < 8 * length f → bit f j ≡ bit g j
   all_bits j h =
-      elim (dec_lt j 16) [
-        | yes l ↦ sizes j l
-        | no l1 ↦ elim (dec_lt j (input_levels_at n)) [
-          | yes l ↦ order j (omega arith) l
-          | no l2 ↦ elim (dec_lt j (output_levels_at n i)) [
-            | yes l ↦ input_levels j (omega arith) l
-            | no l3 ↦ elim (dec_lt j (cuts_at n i o)) [
-              | yes l ↦ output_levels j (omega arith) l
-              | no l4 ↦ elim (dec_lt j (end_at n i o)) [
-                | yes l ↦ cuts j (omega arith) l
-                | no l5 ↦ padding_bits j (omega arith) h
-              ]
-            ]
-          ]
-        ]
-      ]
+      cases j 16 (sizes j) (λ l1.
+      cases j (input_levels_at n) (order j l1) (λ l2.
+      cases j (output_levels_at n i) (input_levels j l2) (λ l3.
+      cases j (cuts_at n i o) (output_levels j l3) (λ l4.
+      cases j (end_at n i o) (cuts j l4) (λ l5. padding_bits j l5 h)))))
 
 pub one_file : OneFile
 one_file f g P bf bg yf yg df dg =
