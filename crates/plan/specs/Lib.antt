@@ -2,3 +2,4 @@ pub mod Layout
 pub mod Plans
 pub mod Reading
 pub mod Tables
+pub mod Codes

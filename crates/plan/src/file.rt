@@ -1,13 +1,16 @@
 // A plan file whose sizes are known, and what it says of levels and channels.
-ghost use Rattle.std.specs.Prelude.{◌≡◌, ℕ, ◌<◌, ◌≤◌, ◌↔◌, IsTrue, MatchOption, MatchResult, map};
+ghost use Rattle.std.specs.Prelude.{◌≡◌, ℕ, ◌<◌, ◌≤◌, ◌↔◌, IsTrue, MatchResult, map};
 ghost use Rattle.std.specs.List.{range_with_len};
 ghost use Rattle.event.specs.Questions.{FirstNo};
 ghost use Rattle.event.specs.Refusals.{refusal_number};
+ghost use Rattle.event.specs.declared.Refusal.TheVariants.{NoPartialOrder, UnlawfulCut};
 ghost use Rattle.order.specs.Orders.{PartialOrder};
+ghost use Rattle.plan.specs.Codes.{Asked};
 ghost use Rattle.plan.specs.Layout.{file_levels, file_inputs, file_outputs, file_below, file_output_level, file_cut_place, cut_in, LawfulIn, LevelsLawful, CutsLawful, plan_questions};
 ghost use Rattle.plan.specs.Reading.{Sized, RowSays, TableSays, OrderOf, own_level, InputsLawful, OutputsLawful, input_in, RowLawful};
 
 use crate::channel::{CutRow, InputChannel};
+use crate::code::CutCode;
 use crate::sizes::Sizes;
 use arrayvec::ArrayVec;
 use bits::read_field;
@@ -84,11 +87,11 @@ impl PlanFile<'_> {
         )
     }
 
-    // The order of the levels; nothing where the file gives none.
-    pub(crate) fn order(&self) -> Option<OrderTable>
-        ensures { MatchOption result (PartialOrder (file_levels self.now.bytes.now) (file_below self.now.bytes.now) → ⊥) (OrderOf self.now.bytes.now) }
+    // The order of the levels, or the refusal where the file gives none.
+    pub(crate) fn order(&self) -> Result<OrderTable, Refusal>
+        ensures { Asked (PartialOrder (file_levels self.now.bytes.now) (file_below self.now.bytes.now)) (OrderOf self.now.bytes.now) NoPartialOrder result }
     {
-        OrderTable::new(self.sizes.levels, self.order_rows())
+        OrderTable::new(self.sizes.levels, self.order_rows()).ok_or(Refusal::NoPartialOrder)
     }
 
     // The level of an input channel: a release channel has its own number, and the file gives the others'.
@@ -134,47 +137,42 @@ impl PlanFile<'_> {
         self.has_lawful_inputs() && self.has_lawful_outputs()
     }
 
-    // The cut of a channel at a level; nothing where its kind does not allow its number. This is no
-    // TryFrom: kind and number would need a type of their own for this one place.
-    fn cut(&self, channel: usize, level: Level) -> Option<Cut>
+    // The cut of a channel at a level, or the refusal where its kind does not allow its number.
+    fn cut(&self, channel: usize, level: Level) -> Result<Cut, Refusal>
         requires of_channel { channel < self.now.sizes.inputs }
         requires at_level { level < self.now.sizes.levels }
-        ensures { MatchOption result (LawfulIn self.now.bytes.now (file_cut_place self.now.bytes.now channel level) → ⊥)
-            (λ c. LawfulIn self.now.bytes.now (file_cut_place self.now.bytes.now channel level) × (c ≡ cut_in self.now.bytes.now (file_cut_place self.now.bytes.now channel level))) }
+        ensures { Asked (LawfulIn self.now.bytes.now (file_cut_place self.now.bytes.now channel level))
+            (λ c. c ≡ cut_in self.now.bytes.now (file_cut_place self.now.bytes.now channel level)) UnlawfulCut result }
     {
         let at = self.sizes.cuts_at() + 18 * (channel * self.sizes.levels + level);
-        let number = read_field(self.bytes, at + 2, 16);
-        match read_field(self.bytes, at, 2) {
-            0 if number == 0 => Some(Cut::Hidden),
-            1 if number == 0 => Some(Cut::Bare),
-            2 => Some(Cut::Mask(number)),
-            3 if number > 0 => Some(Cut::Step(number)),
-            _ => None,
-        }
+        Cut::try_from(CutCode {
+            kind: read_field(self.bytes, at, 2),
+            number: read_field(self.bytes, at + 2, 16),
+        })
     }
 
-    // An input channel with its row of the cut table; nothing where a cut in it is unlawful.
-    fn input(&self, channel: usize) -> Option<InputChannel>
+    // An input channel with its row of the cut table, or the refusal where a cut in it is unlawful.
+    fn input(&self, channel: usize) -> Result<InputChannel, Refusal>
         requires { channel < self.now.sizes.inputs }
-        ensures { MatchOption result (RowLawful self.now.bytes.now channel → ⊥) (λ i. RowLawful self.now.bytes.now channel × (i ≡ input_in self.now.bytes.now channel)) }
+        ensures { Asked (RowLawful self.now.bytes.now channel) (λ i. i ≡ input_in self.now.bytes.now channel) UnlawfulCut result }
     {
         let mut cuts = CutRow::new();
         for level in 0..self.sizes.levels {
             cuts.push(self.cut(channel, level)?);
         }
         let level = self.input_level(channel);
-        Some(InputChannel { level, cuts })
+        Ok(InputChannel { level, cuts })
     }
 
-    // The input channels; nothing where a cut is unlawful.
-    pub(crate) fn inputs(&self) -> Option<ArrayVec<InputChannel, 32>>
-        ensures { MatchOption result (CutsLawful self.now.bytes.now → ⊥) (λ v. CutsLawful self.now.bytes.now × (v.items ≡ map (input_in self.now.bytes.now) (range_with_len 0 (file_inputs self.now.bytes.now)))) }
+    // The input channels, or the refusal where a cut is unlawful.
+    pub(crate) fn inputs(&self) -> Result<ArrayVec<InputChannel, 32>, Refusal>
+        ensures { Asked (CutsLawful self.now.bytes.now) (λ v. v.items ≡ map (input_in self.now.bytes.now) (range_with_len 0 (file_inputs self.now.bytes.now))) UnlawfulCut result }
     {
         let mut inputs = ArrayVec::new();
         for channel in 0..self.sizes.inputs {
             inputs.push(self.input(channel)?);
         }
-        Some(inputs)
+        Ok(inputs)
     }
 
     // The levels of the output channels.

@@ -2,6 +2,7 @@
 #![tactic(auto)]
 
 mod channel;
+mod code;
 mod file;
 pub mod plan;
 mod sizes;

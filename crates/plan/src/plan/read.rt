@@ -45,15 +45,11 @@ fn read_plan(bytes: &[u8]) -> Result<Plan, Refusal>
     ensures { PlanOf bytes.now result }
 {
     let file = PlanFile::new(bytes)?;
-    let Some(order) = file.order() else {
-        return Err(Refusal::NoPartialOrder);
-    };
+    let order = file.order()?;
     if !file.has_lawful_levels() {
         return Err(Refusal::LevelTooHigh);
     }
-    let Some(inputs) = file.inputs() else {
-        return Err(Refusal::UnlawfulCut);
-    };
+    let inputs = file.inputs()?;
     let outputs = file.outputs();
     Ok(Plan {
         order,
