@@ -1,8 +1,7 @@
-// Numbers in the bit fields of a file, most significant bit first. File and place are two parameters,
-// not one value, since a caller reads one file at many places.
+// Numbers in the bit fields of a file, most significant bit first.
 #![tactic(auto)]
 
-ghost use Rattle.std.specs.Prelude.{◌≡◌, ◌+◌, ◌^◌, ◌<◌, ◌≤◌, min};
+ghost use Rattle.std.specs.Prelude.{◌≡◌, ◌+◌, ◌^◌, ◌<◌, min};
 ghost use Rattle.bits.specs.Fields.{bit, field};
 
 // Bit `k` of those that begin at bit `at`: 1 or 0, and 0 past the file's end.
@@ -16,23 +15,15 @@ fn read_bit(file: &[u8], at: usize, k: usize) -> u16
         .map_or(0, |byte| u16::from((*byte >> (7 - place % 8)) % 2))
 }
 
-// The number in the `width` bits from bit `at` on, at most 16 of them.
-fn read_bits(file: &[u8], at: usize, width: usize) -> u16
-    requires { width ≤ 16 }
-    ensures is { result ≡ field file.now at width }
-    ensures small { result < 2 ^ width }
-{
-    let mut number = 0u16;
-    for k in 0..width {
-        number = number * 2 + read_bit(file, at, k);
-    }
-    number
-}
-
 // The number in the `width` bits from bit `at` on. A width above 16 counts as 16.
+#[tactic(auto, using(crate::proofs::Laws::field_lt))]
 pub fn read_field(file: &[u8], at: usize, width: usize) -> u16
     ensures is { result ≡ field file.now at (min width 16) }
     ensures small { result < 2 ^ min width 16 }
 {
-    read_bits(file, at, width.min(16))
+    let mut number = 0u16;
+    for k in 0..width.min(16) {
+        number = number * 2 + read_bit(file, at, k);
+    }
+    number
 }

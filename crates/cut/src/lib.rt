@@ -21,25 +21,18 @@ pub enum Cut {
 
 impl Cut {
     // What the cut leaves of a value. A step of 0, which no plan has, leaves 0.
+    #[tactic(auto, using(crate::proofs::Cutting::cut_law))]
     pub fn apply(self, value: u16) -> Option<u16>
         ensures is { result ≡ cut_value self value }
         ensures law { CutLaw }
         ensures figures { AllComeOut cut_figures }
     {
-        left_by(self, value)
-    }
-}
-
-// What a cut leaves of a value. This stands apart from `apply`, each of whose returns would have to
-// show the law again.
-fn left_by(cut: Cut, value: u16) -> Option<u16>
-    ensures { result ≡ cut_value cut value }
-{
-    match cut {
-        Cut::Hidden => None,
-        Cut::Bare => Some(0),
-        Cut::Mask(mask) => Some(value & mask),
-        Cut::Step(step) => Some(step_down(step, value)),
+        match self {
+            Cut::Hidden => None,
+            Cut::Bare => Some(0),
+            Cut::Mask(mask) => Some(value & mask),
+            Cut::Step(step) => Some(step_down(step, value)),
+        }
     }
 }
 

@@ -63,5 +63,8 @@ module _ (P : PlanModel) (lawful : LawfulPlan P) where
   list_twice l [] h = refl
   list_twice l (e ∷ es) h = again_then l e (sight P l e) (sights P l es) (twice l e h.0) (list_twice l es h.1)
 
-  pub sight_laws : SightLaws P
+  sight_laws : SightLaws P
   sight_laws = record { whole = whole; twice = twice; list_twice = list_twice }
+
+pub plan_sight_laws : (p : Plan) → SightLaws (model p)
+plan_sight_laws p = sight_laws (model p) (plan_lawful p)

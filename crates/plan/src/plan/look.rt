@@ -68,19 +68,13 @@ impl Plan {
             .is_some_and(|own| self.below(own, level))
     }
 
-    // The sight of an event at a level: what the level may see of it.
+    // The sight of an event at a level: where the channel's level is below the level, the event itself,
+    // and else what the cut leaves of it.
+    #[tactic(auto, using(crate::proofs::Seeing::plan_lawful, crate::proofs::Seeing::plan_sight_laws))]
     pub fn sight(&self, level: Level, event: Event) -> Option<Event>
         ensures is { result ≡ sight (model self.now) level event }
         ensures laws { SightLaws (model self.now) }
         ensures lawful { LawfulPlan (model self.now) }
-    {
-        self.look(level, event)
-    }
-
-    // Where the channel's level is below the level, the event itself; else what the cut leaves of it.
-    // This stands apart from `sight`, each of whose returns would have to show the laws again.
-    fn look(&self, level: Level, event: Event) -> Option<Event>
-        ensures { result ≡ sight (model self.now) level event }
     {
         let cut = self.cut(event.channel, level)?;
         if self.sees_whole(level, event.channel) {
@@ -99,7 +93,7 @@ impl Plan {
     ) -> Result<Vec<Event>, Refusal>
         ensures { MatchResult result (λ v. v.items ≡ sights (model self.now) level events.now) (λ e. e ≡ OutOfMemory) }
     {
-        let seen = events.iter().filter_map(|event| self.look(level, *event));
+        let seen = events.iter().filter_map(|event| self.sight(level, *event));
         Ok(seen.collect(heap)?)
     }
 }

@@ -1,7 +1,7 @@
-use Rattle.std.proofs.Common.{◌≡◌, ◌+◌, refl, ap, ◌∙◌, arith, pow_mono}
+use Rattle.std.proofs.Common.{◌+◌, refl, arith, pow_mono}
 use Rattle.bits.specs.Fields.{field}
 use Rattle.bits.proofs.Laws.{field_lt, field_step, bit_lt}
-use Rattle.bits.proofs.read_bits.Goals as goal
+use Rattle.bits.proofs.read_field.Goals as goal
 
 pub loop-k-init : goal.loop-k-init
 unfolding field
@@ -15,10 +15,3 @@ overflow_add-number c = omega (arith, field_lt c.args.file.now c.args.at c.loop-
 
 pub loop-k-preserved : goal.loop-k-preserved
 loop-k-preserved c = omega (arith, field_step c.args.file.now c.args.at c.loop-k.k)
-
-pub returns : goal.returns
-returns c =
-    let f = c.args.file.now in
-    let e : c.loop-k.k ≡ c.args.width = omega arith in
-    let is : c.loop-k.number ≡ field f c.args.at c.args.width = c.loop-k.invariant ∙ ap (field f c.args.at) e in
-    record { is = is; small = rw is (field_lt f c.args.at c.args.width) }
