@@ -116,7 +116,8 @@ impl PlanFile<'_> {
         usize::from(read_field(self.bytes, at, 3))
     }
 
-    // Whether every input channel's level is one of the file's levels.
+    // Whether every input channel's level is one of the file's levels. This and the next are chains of
+    // their own: one function over the rule for a level would be the chain itself.
     fn has_lawful_inputs(&self) -> bool
         ensures { IsTrue result ↔ InputsLawful self.now.bytes.now }
     {
@@ -164,7 +165,8 @@ impl PlanFile<'_> {
         Ok(InputChannel { level, cuts })
     }
 
-    // The input channels, or the refusal where a cut is unlawful.
+    // The input channels, or the refusal where a cut is unlawful. This is a loop, as are the rows above and
+    // the outputs below: no collecting into a `Result` says when it fails.
     pub(crate) fn inputs(&self) -> Result<ArrayVec<InputChannel, 32>, Refusal>
         ensures { Asked (CutsLawful self.now.bytes.now) (λ v. v.items ≡ map (input_in self.now.bytes.now) (range_with_len 0 (file_inputs self.now.bytes.now))) UnlawfulCut result }
     {

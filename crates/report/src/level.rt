@@ -16,6 +16,7 @@ struct LevelView<'a> {
     events: &'a [Event],
 }
 
+// Three counts, each a chain of its own: one function over their tests would be the chain itself.
 impl<'a> LevelView<'a> {
     // How many of the events the level sees whole.
     fn whole_count(&self) -> usize
