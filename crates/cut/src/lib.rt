@@ -3,13 +3,13 @@
 
 ghost use Rattle.std.specs.Prelude.{◌≡◌, ◌-◌, ◌%◌};
 ghost use Rattle.event.specs.Figures.{AllComeOut};
+ghost use Rattle.cut.specs.declared.Cut.TheVariants.{Hidden};
 ghost use Rattle.cut.specs.Cuts.{cut_value, CutLaw, cut_figures};
 
 // A cut: what is left of a value for a level that may not see the channel whole.
-#[derive(Clone, Copy, Debug, Default, PartialEq, Eq)]
+#[derive(Clone, Copy, Debug, PartialEq, Eq)]
 pub enum Cut {
     // nothing, not even that there was an event
-    #[default]
     Hidden,
     // that there was an event: value 0
     Bare,
@@ -17,6 +17,15 @@ pub enum Cut {
     Mask(u16),
     // the multiple of the step at or below the value
     Step(u16),
+}
+
+// Written out and not derived, so that a clause names the cut that it gives.
+impl Default for Cut {
+    ghost is_default = { λ c. c ≡ Hidden };
+
+    fn default() -> Cut {
+        Self::Hidden
+    }
 }
 
 impl Cut {

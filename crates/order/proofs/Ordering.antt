@@ -1,14 +1,12 @@
 -- Partial orders, and orders by a table.
 use Rattle.std.proofs.Common.{◌≡◌, ℕ, ◌<◌, Bool, true, refl, subst}
+use Rattle.order.specs.OrderLaws.{order_of_properties}
 use Rattle.order.specs.Orders.{PartialOrder, PairOrdered}
 
 -- what every pair of levels keeps makes a partial order
 pub order_from_pairs : (n : ℕ) (r : ℕ → ℕ → Bool) → ((a b : ℕ) → a < n → b < n → PairOrdered n r a b) → PartialOrder n r
-order_from_pairs n r h = record {
-  reflexive = λ a l. (h a a l l).itself refl;
-  antisymmetric = λ a b la lb p q. (h a b la lb).apart p q;
-  transitive = λ a b c la lb lc p q. (h a b la lb).onward c lc p q;
-}
+order_from_pairs n r h =
+    order_of_properties n r (λ a l. (h a a l l).itself refl) (λ a b la lb. (h a b la lb).apart) (λ a b c la lb lc p q. (h a b la lb).onward c lc p q)
 
 -- and a partial order keeps it of every pair
 pub pairs_from_order : (n : ℕ) (r : ℕ → ℕ → Bool) → PartialOrder n r → (a b : ℕ) → a < n → b < n → PairOrdered n r a b

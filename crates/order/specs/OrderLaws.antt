@@ -22,6 +22,14 @@ order_like n r s e h = record {
   transitive = λ a b c la lb lc p q. sym (e a c la lc) ∙ h.transitive a b c la lb lc (e a b la lb ∙ p) (e b c lb lc ∙ q);
 }
 
+-- the three properties of a relation make a partial order
+pub order_of_properties : (n : ℕ) (r : ℕ → ℕ → Bool)
+    → ((a : ℕ) → a < n → r a a ≡ true)
+    → ((a b : ℕ) → a < n → b < n → r a b ≡ true → r b a ≡ true → a ≡ b)
+    → ((a b c : ℕ) → a < n → b < n → c < n → r a b ≡ true → r b c ≡ true → r a c ≡ true)
+    → PartialOrder n r
+order_of_properties n r reflexive antisymmetric transitive = record { reflexive = reflexive; antisymmetric = antisymmetric; transitive = transitive }
+
 -- a partial order stays one among its levels
 pub order_among : (n : ℕ) (r : ℕ → ℕ → Bool) → PartialOrder n r → PartialOrder n (among n r)
 order_among n r = order_like n r _ (λ a b la lb. sym (among_in n r a b la lb))
