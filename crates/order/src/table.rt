@@ -68,7 +68,8 @@ impl Order for OrderTable {
     }
 }
 
-// A relation on the first `levels` levels of a table, which may be no order.
+// A relation on the first `levels` levels of a table, which may be no order. It is asked of two levels,
+// which stay two arguments: a pair of them would be no value of its own.
 #[derive(Clone, Copy)]
 struct Relation<'a> {
     levels: usize,

@@ -71,6 +71,7 @@ fn lengths_off_by_one(rt: HostRuntime) -> Result<(), Fail> {
             let bytes = bytes_for(levels, inputs);
             let mut file = vec![in heap; 0u8; bytes]?;
             assert!(rt; file.len() > 4 && inputs <= 32);
+            // at most 255, so the cast loses nothing, and `try_from` would answer a case that is none
             file[0] = ((levels - 1) * 32 + inputs - 1) as u8;
             assert_eq!(rt; refused(file.as_slice()), Some(5));
             let _ = file.pop();
