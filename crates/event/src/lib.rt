@@ -1,4 +1,4 @@
-// What every layer of the host speaks of: events, outputs, levels and refusals.
+// The types that every layer of the host uses: events, outputs, levels and refusals.
 #![tactic(auto)]
 
 ghost use Rattle.std.specs.Prelude.{◌≡◌, Some, decimal};

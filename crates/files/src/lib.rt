@@ -13,13 +13,11 @@ mod tests;
 
 // The bytes of a file; a missing one counts as empty.
 pub fn file_bytes(rt: &HostRuntime, path: &str) -> io::Result<Vec<u8>> {
-    match fs::read(rt, path) {
-        Ok(bytes) => Ok(bytes),
-        Err(error) => unread(rt.alloc(), error.kind(), error),
-    }
+    fs::read(rt, path).or_else(|error| unread(rt.alloc(), error.kind(), error))
 }
 
-// What stands for a file that was not read: no bytes where it is missing, and else why it was not read.
+// What stands for a file that was not read: no bytes where it is missing, and else why it was not read. The
+// kind comes beside the error, since no clause can speak of what `kind()` answers.
 fn unread(heap: Global, kind: ErrorKind, error: io::Error) -> io::Result<Vec<u8>>
     ensures missing { kind ≡ NotFound → MatchResult result (λ bytes. bytes.items ≡ []) (λ _. ⊥) }
     ensures failed { (kind ≢ NotFound) → result ≡ Err error }

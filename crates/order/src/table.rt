@@ -68,8 +68,8 @@ impl Order for OrderTable {
     }
 }
 
-// A relation on the first `levels` levels of a table, which may be no order. It is asked of two levels,
-// which stay two arguments: a pair of them would be no value of its own.
+// A relation on the first `levels` levels of a table. It is no `OrderTable`, which does not exist before the
+// table was found to be an order. Two levels stay two arguments: a pair of them is no value of its own.
 #[derive(Clone, Copy)]
 struct Relation<'a> {
     levels: usize,

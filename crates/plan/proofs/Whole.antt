@@ -1,10 +1,11 @@
 -- What the parts of a plan file say of the whole.
-use Rattle.std.proofs.Common.{◌≡◌, ℕ, zero, suc, ◌<◌, ◌≤◌, true, List, length, map, sym, refl, ap, ◌∙◌, subst, arith, lt-ltb, le-ltb}
-use Rattle.std.specs.Prelude.{slice_index, slice_index_or}
+use Rattle.std.proofs.Common.{◌≡◌, ℕ, zero, suc, ◌+◌, ◌-◌, ◌<◌, ◌≤◌, Bool, true, List, length, map, sym, refl, ap, ◌∙◌, subst, arith, lt-ltb, le-ltb}
+use Rattle.std.specs.Prelude.{◌↔◌, slice_index, slice_index_or}
 use Rattle.std.specs.List.{range_with_len}
 use Rattle.std.proofs.lemmas.List.FromFn.{length-map-range_with_len, get_or-map-range_with_len}
 use native.Mathlib.Decide.{dec_lt}
 use Rattle.bits.proofs.Laws.{field_lt}
+use Rattle.bits.specs.Fields.{field}
 use Rattle.cut.specs.Cuts.{lawful_cut}
 use Rattle.cut.specs.declared.Cut.TheVariants.{Hidden}
 use Rattle.event.specs.Questions.{AllYes}
@@ -13,7 +14,7 @@ use Rattle.order.specs.Orders.{table_entry, among, PartialOrder}
 use Rattle.order.specs.declared.table.OrderTable.{OrderTable}
 use Rattle.plan.specs.Layout.{file_levels, file_inputs, file_outputs, file_below, file_input_level, file_output_level, file_cut_place, cut_of, cut_in, LawfulNumber, LevelsLawful, CutsLawful, plan_questions, Described}
 use Rattle.plan.specs.Plans.{PlanModel}
-use Rattle.plan.specs.Reading.{Sized, OrderOf, own_level, InputsLawful, input_in}
+use Rattle.plan.specs.Reading.{Sized, TableSays, order_in, OrderOf, file_level, own_level, input_in}
 use Rattle.plan.specs.Tables.{input_at, cut_entry, LawfulInputs, LawfulOutputs}
 use Rattle.plan.specs.declared.channel.InputChannel.{InputChannel}
 use Rattle.plan.specs.declared.sizes.Sizes.{Sizes}
@@ -34,7 +35,30 @@ own_release f r h = rw (lt-ltb r (file_levels f) h)
 own_other : (f : List ℕ) (c : ℕ) → file_levels f ≤ c → own_level f c ≡ file_input_level f c
 own_other f c h = rw (le-ltb c (file_levels f) h)
 
-own_lawful : (f : List ℕ) → LevelsLawful f → InputsLawful f
+-- the table of a file's order says of two levels what the file says
+pub table_says : (f : List ℕ) (rows : List (List Bool)) (a b : ℕ) → TableSays f rows → file_levels f ≤ 8 → a < file_levels f → b < file_levels f → table_entry rows a b ≡ file_below f a b
+unfolding order_in
+table_says f rows a b says few la lb = says a (omega arith) b (omega arith) ∙ among_in (file_levels f) (file_below f) a b la lb
+
+-- the levels that a file gives are those of its channels, one after another
+pub given_lawful : (f : List ℕ) → ((k : ℕ) → k < file_inputs f - file_levels f + file_outputs f → file_level f k < file_levels f) ↔ LevelsLawful f
+given_lawful f = (
+  λ h. record {
+    inputs = λ c n i. h (c - file_levels f) (omega arith);
+    outputs = λ c o. subst (λ x. x < file_levels f) (sym (output_given f c)) (h (file_inputs f - file_levels f + c) (omega arith));
+  },
+  λ h k l. elim (dec_lt k (file_inputs f - file_levels f)) [
+    | yes i ↦ subst (λ j. file_level f j < file_levels f) (let e : file_levels f + k - file_levels f ≡ k = omega arith in e) (h.inputs (file_levels f + k) (omega arith) (omega arith))
+    | no o ↦ (let c = k - (file_inputs f - file_levels f) in
+        let e : file_inputs f - file_levels f + c ≡ k = omega arith in
+        subst (λ j. file_level f j < file_levels f) e (subst (λ x. x < file_levels f) (output_given f c) (h.outputs c (omega arith))))
+  ],
+)
+  where
+    output_given : (f : List ℕ) (c : ℕ) → file_output_level f c ≡ file_level f (file_inputs f - file_levels f + c)
+    output_given f c = ap (λ at. field f at 3) (omega arith)
+
+own_lawful : (f : List ℕ) → LevelsLawful f → (c : ℕ) → c < file_inputs f → own_level f c < file_levels f
 own_lawful f h c i = elim (dec_lt c (file_levels f)) [
   | yes l ↦ subst (λ x. x < file_levels f) (sym (own_release f c l)) l
   | no g ↦ subst (λ x. x < file_levels f) (sym (own_other f c (omega arith))) (h.inputs c (omega arith) i)

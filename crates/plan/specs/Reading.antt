@@ -5,9 +5,9 @@ use Rattle.bits.specs.Fields.{field}
 use Rattle.event.specs.Questions.{AllYes, FirstNo}
 use Rattle.event.specs.Refusals.{refusal_number}
 use Rattle.event.specs.declared.Refusal.{Refusal}
-use Rattle.order.specs.Orders.{table_entry}
+use Rattle.order.specs.Orders.{table_entry, among}
 use Rattle.order.specs.declared.table.OrderTable.{OrderTable}
-use Rattle.plan.specs.Layout.{file_levels, file_inputs, file_outputs, file_end, file_below, file_input_level, file_output_level, file_cut_place, cut_in, LawfulIn, plan_questions, Described}
+use Rattle.plan.specs.Layout.{file_levels, file_inputs, file_outputs, file_end, file_below, input_levels_at, level_in, file_input_level, file_cut_place, cut_in, LawfulIn, plan_questions, Described}
 use Rattle.plan.specs.Plans.{model}
 use Rattle.plan.specs.declared.channel.InputChannel.{InputChannel}
 use Rattle.plan.specs.declared.plan.Plan.{Plan}
@@ -24,11 +24,14 @@ pub record Sized (f : List ℕ) (s : Sizes) : Type 0 where
   pub spare : field f 13 3 ≡ 0
   pub padding : field f (file_end f) (8 * length f - file_end f) ≡ 0
 
--- a row of the order's table
-abbrev pub RowSays : List ℕ → ℕ → List Bool → Type 0
-RowSays f a row = (b : ℕ) → b < 8 → slice_index_or row b false ≡ file_below f a b
+-- whether a file says that a is below b; a number that is no level is neither below nor above any
+unfoldable pub order_in : List ℕ → ℕ → ℕ → Bool
+order_in f a b = among (file_levels f) (file_below f) a b
 
--- the order's table
+-- a row of the order's table, and the whole table
+abbrev pub RowSays : List ℕ → ℕ → List Bool → Type 0
+RowSays f a row = (b : ℕ) → b < 8 → slice_index_or row b false ≡ order_in f a b
+
 abbrev pub TableSays : List ℕ → List (List Bool) → Type 0
 TableSays f rows = (a : ℕ) → a < 8 → RowSays f a (slice_index_or rows a [])
 
@@ -37,16 +40,13 @@ pub record OrderOf (f : List ℕ) (t : OrderTable) : Type 0 where
   pub levels : t.levels ≡ file_levels f
   pub below : (a b : ℕ) → a < file_levels f → b < file_levels f → table_entry t.rows a b ≡ file_below f a b
 
+-- the k-th of the levels that a file gives its channels
+abbrev pub file_level : List ℕ → ℕ → ℕ
+file_level f k = level_in f (input_levels_at (file_levels f)) k
+
 -- the level of an input channel: of a release channel its own number, and else what the file says
 abbrev pub own_level : List ℕ → ℕ → ℕ
 own_level f c = if nat_lt c (file_levels f) then c else file_input_level f c
-
--- the level of every input channel, and of every output channel, is one of the file's levels
-abbrev pub InputsLawful : List ℕ → Type 0
-InputsLawful f = (c : ℕ) → c < file_inputs f → own_level f c < file_levels f
-
-abbrev pub OutputsLawful : List ℕ → Type 0
-OutputsLawful f = (c : ℕ) → c < file_outputs f → file_output_level f c < file_levels f
 
 -- the cuts of an input channel have numbers that their kinds allow
 abbrev pub RowLawful : List ℕ → ℕ → Type 0

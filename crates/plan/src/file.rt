@@ -7,7 +7,7 @@ ghost use Rattle.event.specs.declared.Refusal.TheVariants.{NoPartialOrder, Unlaw
 ghost use Rattle.order.specs.Orders.{PartialOrder};
 ghost use Rattle.plan.specs.Codes.{Asked};
 ghost use Rattle.plan.specs.Layout.{file_levels, file_inputs, file_outputs, file_below, file_output_level, file_cut_place, cut_in, LawfulIn, LevelsLawful, CutsLawful, plan_questions};
-ghost use Rattle.plan.specs.Reading.{Sized, RowSays, TableSays, OrderOf, own_level, InputsLawful, OutputsLawful, input_in, RowLawful};
+ghost use Rattle.plan.specs.Reading.{Sized, RowSays, TableSays, order_in, OrderOf, file_level, own_level, input_in, RowLawful};
 
 use crate::channel::{CutRow, InputChannel};
 use crate::code::CutCode;
@@ -58,18 +58,17 @@ impl<'a> PlanFile<'a> {
 }
 
 impl PlanFile<'_> {
-    // Whether the file says that level a is below level b.
+    // Whether the file says that level a is below level b; a number that is no level is neither below nor above any.
+    #[tactic(auto, unfolding(crate::specs::Reading::order_in))]
     fn below(&self, a: Level, b: Level) -> bool
-        requires row { a < 8 }
-        requires column { b < 8 }
-        ensures { result ≡ file_below self.now.bytes.now a b }
+        ensures { result ≡ order_in self.now.bytes.now a b }
     {
-        read_field(self.bytes, 16 + (a * self.sizes.levels + b), 1) == 1
+        let levels = self.sizes.levels;
+        a < levels && b < levels && read_field(self.bytes, 16 + (a * levels + b), 1) == 1
     }
 
-    // A row of the order's table.
+    // A row of the order's table, which says false beyond the levels.
     fn order_row(&self, a: Level) -> [bool; 8]
-        requires { a < 8 }
         ensures { RowSays self.now.bytes.now a result }
     {
         array::from_fn(|b| self.below(a, b))
@@ -81,7 +80,6 @@ impl PlanFile<'_> {
     {
         array::from_fn(
             |a| -> [bool; 8]
-                requires { a < 8 }
                 ensures { RowSays self.entry.now.bytes.now a result }
             { self.order_row(a) },
         )
@@ -94,17 +92,33 @@ impl PlanFile<'_> {
         OrderTable::new(self.sizes.levels, self.order_rows()).ok_or(Refusal::NoPartialOrder)
     }
 
+    // The k-th of the levels that the file gives: those of the input channels that are no release channels, and
+    // then those of the output channels.
+    fn level(&self, k: usize) -> Level
+        requires { k < 64 }
+        ensures { result ≡ file_level self.now.bytes.now k }
+    {
+        let at = self.sizes.input_levels_at() + 3 * k;
+        usize::from(read_field(self.bytes, at, 3))
+    }
+
+    // Whether every level that the file gives a channel is one of its levels.
+    pub(crate) fn has_lawful_levels(&self) -> bool
+        ensures { IsTrue result ↔ LevelsLawful self.now.bytes.now }
+    {
+        let given = self.sizes.inputs - self.sizes.levels + self.sizes.outputs;
+        (0..given).all(|k| self.level(k) < self.sizes.levels)
+    }
+
     // The level of an input channel: a release channel has its own number, and the file gives the others'.
     fn input_level(&self, channel: usize) -> Level
         requires { channel < 32 }
         ensures { result ≡ own_level self.now.bytes.now channel }
     {
-        let levels = self.sizes.levels;
-        if channel < levels {
-            return channel;
+        match channel.checked_sub(self.sizes.levels) {
+            Some(k) => self.level(k),
+            None => channel,
         }
-        let at = self.sizes.input_levels_at() + 3 * (channel - levels);
-        usize::from(read_field(self.bytes, at, 3))
     }
 
     // The level of an output channel.
@@ -112,30 +126,7 @@ impl PlanFile<'_> {
         requires { channel < 32 }
         ensures { result ≡ file_output_level self.now.bytes.now channel }
     {
-        let at = self.sizes.output_levels_at() + 3 * channel;
-        usize::from(read_field(self.bytes, at, 3))
-    }
-
-    // Whether every input channel's level is one of the file's levels. This and the next are chains of
-    // their own: one function over the rule for a level would be the chain itself.
-    fn has_lawful_inputs(&self) -> bool
-        ensures { IsTrue result ↔ InputsLawful self.now.bytes.now }
-    {
-        (0..self.sizes.inputs).all(|c| self.input_level(c) < self.sizes.levels)
-    }
-
-    // Whether every output channel's level is one of the file's levels.
-    fn has_lawful_outputs(&self) -> bool
-        ensures { IsTrue result ↔ OutputsLawful self.now.bytes.now }
-    {
-        (0..self.sizes.outputs).all(|c| self.output_level(c) < self.sizes.levels)
-    }
-
-    // Whether every level that the file gives a channel is one of its levels.
-    pub(crate) fn has_lawful_levels(&self) -> bool
-        ensures { IsTrue result ↔ LevelsLawful self.now.bytes.now }
-    {
-        self.has_lawful_inputs() && self.has_lawful_outputs()
+        self.level(self.sizes.inputs - self.sizes.levels + channel)
     }
 
     // The cut of a channel at a level, or the refusal where its kind does not allow its number.

@@ -11,7 +11,8 @@ mod read;
 
 // A plan: what may flow where. It has 1 to 8 levels with their order, up to 32 input channels and up
 // to 32 output channels with a level each, and a cut for each input channel at each level. No plan
-// exists without the properties that its ghost fields state.
+// exists without the properties that its ghost fields state. It has no `impl Model`: its value would be
+// `PlanModel`, and a value with functions is refused (tried: unsupported-contract-type).
 #[derive(Drop)]
 pub struct Plan {
     order: OrderTable,

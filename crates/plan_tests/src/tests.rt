@@ -58,8 +58,7 @@ fn bytes_for(levels: usize, inputs: usize) -> usize {
         .wrapping_add(order)
         .wrapping_add(channels)
         .wrapping_add(cuts)
-        .wrapping_add(7)
-        / 8
+        .div_ceil(8)
 }
 
 // A file of zeros after its sizes has an unlawful order, and a byte more or less another length.

@@ -2,6 +2,7 @@
 ghost use Rattle.std.specs.Prelude.{◌≡◌, Some};
 ghost use Rattle.plan.specs.Plans.{model};
 ghost use Rattle.report.specs.Reports.{whole_count, cut_count, absent_count, level_text, levels_text};
+ghost use Rattle.report.specs.Seen.{IsSeen};
 
 use crate::seen::SeenEvent;
 use event::{Event, Level};
@@ -16,16 +17,24 @@ struct LevelView<'a> {
     events: &'a [Event],
 }
 
-// Three counts, each a chain of its own: one function over their tests would be the chain itself.
 impl<'a> LevelView<'a> {
+    // What the level sees of an event. The three counts below are tests of it in chains of their own: one
+    // function over the test would be the chain itself.
+    fn seen(&self, event: Event) -> Option<SeenEvent>
+        ensures { IsSeen (model self.now.plan.now) self.now.level event result }
+    {
+        let seen = self.plan.sight(self.level, event)?;
+        let whole = self.plan.sees_whole(self.level, event.channel);
+        Some(SeenEvent { event: seen, whole })
+    }
+
     // How many of the events the level sees whole.
     fn whole_count(&self) -> usize
         ensures { result ≡ whole_count (model self.now.plan.now) self.now.level self.now.events.now }
     {
         self.events
             .iter()
-            .filter(|event| self.plan.sight(self.level, **event).is_some()
-                && self.plan.sees_whole(self.level, event.channel))
+            .filter(|event| self.seen(**event).is_some_and(|seen| seen.whole))
             .count()
     }
 
@@ -35,8 +44,7 @@ impl<'a> LevelView<'a> {
     {
         self.events
             .iter()
-            .filter(|event| self.plan.sight(self.level, **event).is_some()
-                && !self.plan.sees_whole(self.level, event.channel))
+            .filter(|event| self.seen(**event).is_some_and(|seen| !seen.whole))
             .count()
     }
 
@@ -46,7 +54,7 @@ impl<'a> LevelView<'a> {
     {
         self.events
             .iter()
-            .filter(|event| self.plan.sight(self.level, **event).is_none())
+            .filter(|event| self.seen(**event).is_none())
             .count()
     }
 }
@@ -58,9 +66,8 @@ impl<'a> fmt::Display for LevelView<'a> {
         let level = self.level;
         writeln!(f, "level {level} sees:")?;
         for event in self.events {
-            if let Some(seen) = self.plan.sight(level, *event) {
-                let whole = self.plan.sees_whole(level, seen.channel);
-                write!(f, "{}", SeenEvent { event: seen, whole })?;
+            if let Some(seen) = self.seen(*event) {
+                write!(f, "{seen}")?;
             }
         }
         let whole = self.whole_count();

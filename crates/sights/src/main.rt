@@ -10,8 +10,6 @@ use std::io::ErrorKind;
 fn main(rt: HostRuntime) -> io::Result<()> {
     let plan_file = file_bytes(&rt, "plan.bin")?;
     let script = input_bytes(&rt)?;
-    match sights_report(rt.alloc(), plan_file.as_slice(), script.as_slice()) {
-        Ok(text) => rt.print(text.as_str()),
-        Err(_) => Err(ErrorKind::OutOfMemory.into()),
-    }
+    let text = sights_report(rt.alloc(), &plan_file, &script).map_err(|_| ErrorKind::OutOfMemory)?;
+    rt.print(&text)
 }

@@ -42,7 +42,9 @@ impl Plan {
     pub fn input_level(&self, channel: u16) -> Option<Level>
         ensures { result ≡ (if nat_lt channel (model self.now).inputs then Some ((model self.now).input_level channel) else None) }
     {
-        Some(self.inputs.get(usize::from(channel))?.level)
+        self.inputs
+            .get(usize::from(channel))
+            .map(|input| input.level)
     }
 
     // The level of an output channel; a channel that the plan does not have has none.
@@ -84,7 +86,8 @@ impl Plan {
         Some(Event { value, ..event })
     }
 
-    // The sight of a list of events at a level: that of each in order, absent ones left out.
+    // The sight of a list of events at a level: that of each in order, absent ones left out. Want of memory,
+    // its one failure, comes as a refusal, since a refusal of a public call has a number.
     pub fn sights(
         &self,
         heap: Global,

@@ -46,6 +46,7 @@ fn read_plan(bytes: &[u8]) -> Result<Plan, Refusal>
 {
     let file = PlanFile::new(bytes)?;
     let order = file.order()?;
+    // the question on levels comes before that on cuts, so all levels are looked at before a channel is made
     if !file.has_lawful_levels() {
         return Err(Refusal::LevelTooHigh);
     }
