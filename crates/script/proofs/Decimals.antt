@@ -10,7 +10,7 @@ use Rattle.std.proofs.lemmas.Str.{IsUtf8-from_ascii}
 use Rattle.std.proofs.lemmas.Str.Parse.{IsNumeralModel, numerals_by_value, tells_all_ascii_digits, digit_at, parse_digits}
 
 -- what digits are read as in base ten
-abbrev pub reading : List ℕ → ℕ
+abbrev reading : List ℕ → ℕ
 reading = digits_value 10
 
 rows : IsNumeralModel (λ ds. all_ascii_digits ds ≡ true) reading
@@ -20,7 +20,7 @@ module _ (v : ℕ) (small : v ≤ 65535) where
   pub decimal_digits : all_ascii_digits (decimal v) ≡ true
   decimal_digits = digits_decimal rows v (omega arith)
 
-  pub reading_decimal : reading (decimal v) ≡ v
+  reading_decimal : reading (decimal v) ≡ v
   reading_decimal = digits_value-decimal rows v (omega arith)
 
 -- a decimal of several digits does not begin with a zero
