@@ -10,18 +10,14 @@ use Rattle.std.proofs.lemmas.Str.{IsUtf8-from_ascii}
 use Rattle.std.proofs.lemmas.Str.Parse.{IsNumeralModel, numerals_by_value, tells_all_ascii_digits, digit_at, parse_digits}
 
 -- what digits are read as in base ten
-abbrev pub reading : List ℕ → ℕ
+abbrev reading : List ℕ → ℕ
 reading = digits_value 10
 
 rows : IsNumeralModel (λ ds. all_ascii_digits ds ≡ true) reading
 rows = numerals_by_value _ tells_all_ascii_digits
 
-module _ (v : ℕ) (small : v ≤ 65535) where
-  pub decimal_digits : all_ascii_digits (decimal v) ≡ true
-  decimal_digits = digits_decimal rows v (omega arith)
-
-  pub reading_decimal : reading (decimal v) ≡ v
-  reading_decimal = digits_value-decimal rows v (omega arith)
+pub decimal_digits : (v : ℕ) → v ≤ 65535 → all_ascii_digits (decimal v) ≡ true
+decimal_digits v small = digits_decimal rows v (omega arith)
 
 -- a decimal of several digits does not begin with a zero
 decimal_lead : (v : ℕ) → v ≤ 65535 → 1 < length (decimal v) → get_or (decimal v) 0 0 ≡ 48 → ⊥
@@ -45,4 +41,4 @@ module _ (ds : List ℕ) (all : all_ascii_digits ds ≡ true) where
       let alone : get_or ds 0 0 ≡ 48 → length ds ≡ 1 = λ zero_first. omega (arith, told.0.0, λ (long : 1 < length ds). lead (long, zero_first)) in
       (omega (arith, told.0.1, told.1), sym (decimal-digits_value rows ds all told.0.0 alone (omega (arith, told.0.1))) ∙ ap decimal (sym told.1))
   parse_decimal {E} (Err e) parsed lead =
-      λ v (small, same). parse_digits rows {E = E} 16 ds (Err e) parsed all (omega (arith, ap length same, decimal_nonempty v (omega arith)), omega (arith, ap reading same, reading_decimal v small))
+      λ v (small, same). parse_digits rows {E = E} 16 ds (Err e) parsed all (omega (arith, ap length same, decimal_nonempty v (omega arith)), omega (arith, ap reading same, digits_value-decimal rows v (omega arith)))

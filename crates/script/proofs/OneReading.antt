@@ -1,29 +1,26 @@
 -- A line reads as one command, and a script has one list of answers.
-use Rattle.std.proofs.Common.{◌≡◌, ℕ, ◌≤◌, List, [], ◌∷◌, ◌++◌, length, get_or, drop, Ok, Err, decimal, sym, refl, ap, ◌∙◌, subst, arith, length-append}
+use Rattle.std.proofs.Common.{◌≡◌, ℕ, List, [], ◌∷◌, ◌++◌, length, get_or, drop, Ok, Err, decimal, sym, refl, ap, ◌∙◌, subst, arith, length-append}
+use Rattle.std.proofs.lemmas.Fmt.{decimal_injective}
 use Rattle.event.proofs.Asking.{never_both, one_first}
 use Rattle.event.proofs.Numbers.{distinct_numbers}
 use Rattle.event.specs.Refusals.{refusal_number}
 use Rattle.script.specs.Commands.{LineReads, line_questions, OneCommand}
 use Rattle.script.specs.Scripts.{with_feeds, NoFeed, Answers, OneReading}
 use Rattle.script.specs.declared.command.Command.TheVariants.{Feed, Collect}
-use Rattle.script.proofs.Decimals.{reading, decimal_digits, reading_decimal}
+use Rattle.script.proofs.Decimals.{decimal_digits}
 use Rattle.script.proofs.Pieces.{Answer, no_answers}
 use Rattle.script.proofs.Splits.{same_row}
-
--- numbers with the same decimal are the same
-same_number : (v w : ℕ) → v ≤ 65535 → w ≤ 65535 → decimal v ≡ decimal w → v ≡ w
-same_number v w p q e = sym (reading_decimal v p) ∙ ap reading e ∙ reading_decimal w q
 
 pub one_command : OneCommand
 one_command line (Feed e) (Feed f) (s, p) (t, q) =
     let h = same_row (decimal e.channel) (decimal f.channel) (32 ∷ decimal e.value) (32 ∷ decimal f.value)
     (decimal_digits e.channel s.0) (decimal_digits f.channel t.0) refl refl (ap (drop 2) (sym p ∙ q)) in
-    let channels : e.channel ≡ f.channel = same_number e.channel f.channel s.0 t.0 h.0 in
-    let values : e.value ≡ f.value = same_number e.value f.value s.1 t.1 (ap (drop 1) h.1) in
+    let channels : e.channel ≡ f.channel = decimal_injective e.channel f.channel (omega arith) (omega arith) h.0 in
+    let values : e.value ≡ f.value = decimal_injective e.value f.value (omega arith) (omega arith) (ap (drop 1) h.1) in
     λ i. Feed (record { channel = channels i; value = values i })
 one_command line (Feed e) (Collect l) (s, p) (t, q) = absurd (omega (arith, ap (λ xs. get_or xs 0 0) (sym p ∙ q)))
 one_command line (Collect l) (Feed e) (s, p) (t, q) = absurd (omega (arith, ap (λ xs. get_or xs 0 0) (sym p ∙ q)))
-one_command line (Collect l) (Collect m) (s, p) (t, q) = ap Collect (same_number l m s t (ap (drop 2) (sym p ∙ q)))
+one_command line (Collect l) (Collect m) (s, p) (t, q) = ap Collect (decimal_injective l m (omega arith) (omega arith) (ap (drop 2) (sym p ∙ q)))
 
 -- a line has one answer
 one_answer : (line : List ℕ) (r s : Answer) → LineReads line r → LineReads line s → r ≡ s

@@ -1,32 +1,39 @@
 // A place in a line, and how the line goes on there.
-ghost use Rattle.std.specs.Prelude.{◌≡◌, ◌≢◌, ℕ, ◌≤◌, ◌↔◌, List, [], ◌∷◌, length, drop, IsTrue, MatchOption};
+ghost use Rattle.std.specs.Prelude.{◌≡◌, ℕ, ◌≤◌, ◌↔◌, List, ◌∷◌, length, drop, IsTrue};
+ghost use Rattle.script.specs.Cursors.{ReadsOn, IsReading};
 ghost use Rattle.script.specs.Fields.{NumberThen, SpacedThen, LastNumber, LetterThen};
 
 use crate::number::value_of;
 use crate::token::{Token, token_at};
+use std::marker::Model;
 
-// A place in a line, at its end at most.
-#[derive(Clone, Copy)]
+// A place in a line, at its end at most. A clause sees the bytes that are left of the line there.
+#[derive(Drop)]
 pub(crate) struct Cursor<'a> {
     line: &'a [u8],
     at: usize,
-    ghost inside: { at ≤ length line.now },
+}
+
+impl<'a> Model for Cursor<'a> {
+    ghost Value = { List ℕ };
+
+    ghost view = { λ c. drop c.at c.line.now };
+
+    ghost invariant = { λ c. c.at ≤ length c.line.now };
 }
 
 impl<'a> Cursor<'a> {
-    ghost use Rattle.script.specs.Cursors.{left, ReadsOn, IsReading};
-
     // The first place of a line.
     pub(crate) fn start(line: &'a [u8]) -> Self
-        ensures { left result ≡ line.now }
+        ensures { result ≡ line.now }
     {
         Cursor { line, at: 0 }
     }
 
     // The place that many bytes further on.
     fn past(&self, count: usize) -> Self
-        requires { count ≤ length (left self.now) }
-        ensures { left result ≡ drop count (left self.now) }
+        requires { count ≤ length self.now }
+        ensures { result ≡ drop count self.now }
     {
         Cursor {
             line: self.line,
@@ -36,7 +43,7 @@ impl<'a> Cursor<'a> {
 
     // Whether nothing is left of the line.
     fn is_at_end(&self) -> bool
-        ensures { IsTrue result ↔ (length (left self.now) ≡ 0) }
+        ensures { IsTrue result ↔ (length self.now ≡ 0) }
     {
         self.at == self.line.len()
     }
@@ -53,7 +60,7 @@ impl<'a> Cursor<'a> {
 
     // The place after the blank here; nothing where there is none.
     fn past_blank(&self) -> Option<Self>
-        ensures { MatchOption result ((rest : List ℕ) → left self.now ≢ 32 ∷ rest) (λ c. left self.now ≡ 32 ∷ left c) }
+        ensures { IsReading (λ rest. self.now ≡ 32 ∷ rest) result }
     {
         match token_at(self.line, self.at)? {
             Token::Blank { text, .. } => Some(self.past(text.len())),
@@ -80,7 +87,7 @@ impl<'a> Cursor<'a> {
 
     // The number after one blank here, if the line ends with it.
     pub(crate) fn last_number(&self) -> Option<u16>
-        ensures { IsReading (LastNumber (left self.now)) result }
+        ensures { IsReading (LastNumber self.now) result }
     {
         let (value, end) = self.spaced_number()?;
         end.is_at_end().then_some(value)

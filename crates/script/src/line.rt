@@ -1,6 +1,6 @@
 // A line of a script as the command that it writes out.
 ghost use Rattle.script.specs.Commands.{Reads, LineReads, OneCommand};
-ghost use Rattle.script.specs.Cursors.{left, IsReading};
+ghost use Rattle.script.specs.Cursors.{IsReading};
 ghost use Rattle.script.specs.Fields.{EventFields, LastNumber};
 
 use crate::command::Command;
@@ -9,7 +9,7 @@ use event::{Event, Level, Refusal};
 
 // The event that a line writes out after its letter; nothing where it goes on otherwise.
 fn event_at(cursor: &Cursor) -> Option<Event>
-    ensures { IsReading (EventFields (left cursor.now)) result }
+    ensures { IsReading (EventFields cursor.now) result }
 {
     let (channel, rest) = cursor.spaced_number()?;
     let value = rest.last_number()?;
@@ -18,7 +18,7 @@ fn event_at(cursor: &Cursor) -> Option<Event>
 
 // The level that a line writes out after its letter; nothing where it goes on otherwise.
 fn level_at(cursor: &Cursor) -> Option<Level>
-    ensures { IsReading (LastNumber (left cursor.now)) result }
+    ensures { IsReading (LastNumber cursor.now) result }
 {
     cursor.last_number().map(Level::from)
 }
