@@ -10,7 +10,8 @@ use event::Level;
 // the number of levels stands beside it: rows with lengths of their own could be of different lengths.
 pub type Rows = [[bool; 8]; 8];
 
-// An order by its table, which no value of this type has without the properties of a partial order.
+// An order by its table, which no value of this type has without the properties of a partial order. It has
+// no `impl Model`: clauses would name the same number and table under another name.
 #[derive(Drop)]
 pub struct OrderTable {
     levels: usize,

@@ -12,7 +12,8 @@ use event::Refusal;
 use order::table::OrderTable;
 
 impl Plan {
-    // The plan that one begins with: one level, one channel each way, and a hidden cut.
+    // The plan that one begins with: one level, one channel each way, and a hidden cut. It is no `Default`,
+    // which would be a second name for it.
     pub fn new() -> Plan
         ensures { FirstPlan (model result) }
     {
