@@ -14,7 +14,8 @@ use script::command::Command;
 use script::lines::read_script;
 use std::alloc::{AllocError, Global};
 
-// The text that the program prints, from the bytes of the plan file and of the script.
+// The text that the program prints, from the bytes of the plan file and of the script. Want of memory, its one
+// failure, comes as a refusal, since a refusal of a public call has a number.
 #[tactic(auto, using(crate::proofs::Counting::counts_law, crate::proofs::Outcomes::report_refused))]
 pub fn sights_report(heap: Global, plan_file: &[u8], script: &[u8]) -> Result<String, Refusal>
     ensures report { MatchResult result (λ s. ReportOf plan_file.now script.now (string_bytes s)) (λ e. e ≡ OutOfMemory) }
