@@ -1,4 +1,5 @@
-// Want of memory as a refusal. There are two impls, since std has two errors for it and no trait of both.
+// Want of memory as a refusal. There are two impls, since std has two errors for it, and each trait of both
+// is one of other errors too.
 ghost use Rattle.std.specs.Prelude.{◌≡◌};
 ghost use Rattle.event.specs.declared.Refusal.TheVariants.{OutOfMemory};
 

@@ -115,9 +115,11 @@ impl PlanFile<'_> {
         requires { channel < 32 }
         ensures { result ≡ own_level self.now.bytes.now channel }
     {
-        match channel.checked_sub(self.sizes.levels) {
-            Some(k) => self.level(k),
-            None => channel,
+        let levels = self.sizes.levels;
+        if channel < levels {
+            channel
+        } else {
+            self.level(channel - levels)
         }
     }
 
@@ -156,8 +158,8 @@ impl PlanFile<'_> {
         Ok(InputChannel { level, cuts })
     }
 
-    // The input channels, or the refusal where a cut is unlawful. This is a loop, as are the rows above and
-    // the outputs below: no collecting into a `Result` says when it fails.
+    // The input channels, or the refusal where a cut is unlawful. This is a loop, as is the row above: no
+    // collecting into a `Result` says when it fails.
     pub(crate) fn inputs(&self) -> Result<ArrayVec<InputChannel, 32>, Refusal>
         ensures { Asked (CutsLawful self.now.bytes.now) (λ v. v.items ≡ map (input_in self.now.bytes.now) (range_with_len 0 (file_inputs self.now.bytes.now))) UnlawfulCut result }
     {
@@ -168,7 +170,7 @@ impl PlanFile<'_> {
         Ok(inputs)
     }
 
-    // The levels of the output channels.
+    // The levels of the output channels. This is a loop, since collecting takes an allocator.
     pub(crate) fn outputs(&self) -> ArrayVec<Level, 32>
         ensures { result.items ≡ map (file_output_level self.now.bytes.now) (range_with_len 0 (file_outputs self.now.bytes.now)) }
     {

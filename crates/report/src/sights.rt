@@ -28,7 +28,8 @@ pub fn sights_report(heap: Global, plan_file: &[u8], script: &[u8]) -> Result<St
     }
 }
 
-// The text for a script under a plan. Want of memory is no line of it, and is handed on.
+// The text for a script under a plan. Want of memory is no line of it: `read_script` answers it as a refusal,
+// which is handed on as it came.
 fn script_report(heap: Global, plan: &Plan, script: &[u8]) -> Result<String, Refusal>
     ensures { MatchResult result (λ s. ScriptReport (model plan.now) script.now (string_bytes s)) (λ e. e ≡ OutOfMemory) }
 {
