@@ -3,7 +3,7 @@
 
     python3 tools/design_places.py [FOLDER]      FOLDER holds crates/; the present one if none is given
 
-It goes by text: what it finds has to be read, and docs/DESIGN-PASS.md says of each place what became of it.
+It goes by text: what it finds has to be read, and docs/DESIGN-PASS.md says what was changed and what is kept.
 """
 import re
 import sys
