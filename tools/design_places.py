@@ -46,7 +46,7 @@ def functions():
                     i += 1
             i += 1
             signature = " ".join(head).rstrip("{ ").strip()
-            yield path.parts[-1 - len(path.relative_to(ROOT / "crates").parts) + 1], path, start + 1, m.group(1), signature, clauses, body
+            yield path.relative_to(ROOT / "crates").parts[0], path, start + 1, m.group(1), signature, clauses, body
 
 
 FUNCTIONS = list(functions())

@@ -11,7 +11,7 @@ use event::Level;
 pub type Rows = [[bool; 8]; 8];
 
 // An order by its table, which no value of this type has without the properties of a partial order. It has
-// no `impl Model`: clauses would name the same number and table under another name.
+// no `impl Model`: clauses name its number of levels and its table, which is all that there is.
 #[derive(Drop)]
 pub struct OrderTable {
     levels: usize,
@@ -22,10 +22,12 @@ pub struct OrderTable {
 }
 
 impl OrderTable {
+    ghost use Rattle.order.specs.OrderTables.{level_count, table_rows};
+
     // The order of one level, which is below itself.
     pub fn single() -> OrderTable
-        ensures levels { result.levels ≡ 1 }
-        ensures below { IsTrue (table_entry result.rows 0 0) }
+        ensures levels { level_count result ≡ 1 }
+        ensures below { IsTrue (table_entry (table_rows result) 0 0) }
     {
         OrderTable {
             levels: 1,
@@ -35,7 +37,7 @@ impl OrderTable {
 
     // The order of a table on the first `levels` levels, or nothing where it is none or they are not 1 to 8.
     pub fn new(levels: usize, rows: Rows) -> Option<OrderTable>
-        ensures { MatchOption result ((1 ≤ levels) × (levels ≤ 8) × PartialOrder levels (table_entry rows) → ⊥) (λ t. (t.levels ≡ levels) × (t.rows ≡ rows)) }
+        ensures { MatchOption result ((1 ≤ levels) × (levels ≤ 8) × PartialOrder levels (table_entry rows) → ⊥) (λ t. (level_count t ≡ levels) × (table_rows t ≡ rows)) }
     {
         if !(1..=8).contains(&levels) {
             return None;
@@ -52,13 +54,15 @@ impl OrderTable {
 }
 
 impl Order for OrderTable {
-    ghost size = { λ s. s.levels };
+    ghost use Rattle.order.specs.OrderTables.{level_count, table_rows};
 
-    ghost under = { λ s. among s.levels (table_entry s.rows) };
+    ghost size = { level_count };
+
+    ghost under = { λ s. among (level_count s) (table_entry (table_rows s)) };
 
     ghost lawful = { λ s. order_among _ _ s.ordered };
 
-    ghost inside = { λ s a b. among_inside s.levels (table_entry s.rows) a b };
+    ghost inside = { λ s a b. among_inside (level_count s) (table_entry (table_rows s)) a b };
 
     fn levels(&self) -> usize {
         self.levels

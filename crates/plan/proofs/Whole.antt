@@ -10,12 +10,12 @@ use Rattle.cut.specs.Cuts.{lawful_cut}
 use Rattle.cut.specs.declared.Cut.TheVariants.{Hidden}
 use Rattle.event.specs.Questions.{AllYes}
 use Rattle.order.specs.OrderLaws.{among_in, order_like}
-use Rattle.order.specs.Orders.{table_entry, among, PartialOrder}
+use Rattle.order.specs.Orders.{table_entry, PartialOrder}
 use Rattle.order.specs.declared.table.OrderTable.{OrderTable}
 use Rattle.plan.specs.Layout.{file_levels, file_inputs, file_outputs, file_below, file_input_level, file_output_level, file_cut_place, cut_of, cut_in, LawfulNumber, LevelsLawful, CutsLawful, plan_questions, Described}
-use Rattle.plan.specs.Plans.{PlanModel}
+use Rattle.plan.specs.Plans.{model_of}
 use Rattle.plan.specs.Reading.{Sized, TableSays, order_in, OrderOf, file_level, own_level, input_in}
-use Rattle.plan.specs.Tables.{input_at, cut_entry, LawfulInputs, LawfulOutputs}
+use Rattle.plan.specs.Channels.{input_at, cut_entry, LawfulInputs, LawfulOutputs}
 use Rattle.plan.specs.declared.channel.InputChannel.{InputChannel}
 use Rattle.plan.specs.declared.sizes.Sizes.{Sizes}
 use Rattle.plan.proofs.Made.{made_length, made_at}
@@ -63,18 +63,6 @@ own_lawful f h c i = elim (dec_lt c (file_levels f)) [
   | yes l ↦ subst (λ x. x < file_levels f) (sym (own_release f c l)) l
   | no g ↦ subst (λ x. x < file_levels f) (sym (own_other f c (omega arith))) (h.inputs c (omega arith) i)
 ]
-
--- what a plan of some parts says
-abbrev pub of_parts : OrderTable → List InputChannel → List ℕ → PlanModel
-of_parts t inputs outputs = record {
-  levels = t.levels;
-  inputs = length inputs;
-  outputs = length outputs;
-  below = among t.levels (table_entry t.rows);
-  input_level = λ c. (input_at inputs c).level;
-  output_level = λ c. slice_index outputs c;
-  cut = cut_entry inputs;
-}
 
 -- a plan of the parts of a file
 module _ (f : List ℕ) (s : Sizes) (z : Sized f s) (t : OrderTable) (order : OrderOf f t)
@@ -125,7 +113,7 @@ module _ (f : List ℕ) (s : Sizes) (z : Sized f s) (t : OrderTable) (order : Or
   accepted : AllYes (plan_questions f)
   accepted = (z.long, (z.wide, (z.exact, ((z.spare, z.padding), (ordered, (levels, (cuts, tt)))))))
 
-  described : Described f (of_parts t inputs outputs)
+  described : Described f (model_of t inputs outputs)
   described = record {
     levels = order.levels;
     inputs = ins_length;
@@ -138,5 +126,5 @@ module _ (f : List ℕ) (s : Sizes) (z : Sized f s) (t : OrderTable) (order : Or
   }
 
   -- every question on the file is answered yes, and the plan is the one that it describes
-  pub whole : (g : List ℕ) → f ≡ g → AllYes (plan_questions g) × Described g (of_parts t inputs outputs)
-  whole g e = subst (λ h. AllYes (plan_questions h) × Described h (of_parts t inputs outputs)) e (accepted, described)
+  pub whole : (g : List ℕ) → f ≡ g → AllYes (plan_questions g) × Described g (model_of t inputs outputs)
+  whole g e = subst (λ h. AllYes (plan_questions h) × Described h (model_of t inputs outputs)) e (accepted, described)

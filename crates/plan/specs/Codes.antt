@@ -1,4 +1,4 @@
--- What the parts of a plan file are read as.
+-- What a part of a plan file is read as, and the codes of cuts.
 use Rattle.std.specs.Prelude.{◌≡◌, ◌<◌, Result, MatchResult}
 use Rattle.cut.specs.declared.Cut.{Cut}
 use Rattle.event.specs.declared.Refusal.{Refusal}

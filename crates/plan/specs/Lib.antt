@@ -1,5 +1,5 @@
 pub mod Layout
 pub mod Plans
 pub mod Reading
-pub mod Tables
+pub mod Channels
 pub mod Codes

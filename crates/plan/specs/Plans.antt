@@ -4,9 +4,12 @@ use Rattle.std.specs.List.{AllByRecursion, filter_map}
 use Rattle.event.specs.declared.Event.{Event}
 use Rattle.cut.specs.Cuts.{cut_value, lawful_cut}
 use Rattle.order.specs.Orders.{table_entry, among, PartialOrder}
-use Rattle.plan.specs.Tables.{input_at, cut_entry}
+use Rattle.plan.specs.Channels.{input_at, cut_entry}
 use Rattle.cut.specs.declared.Cut.{Cut}
 use Rattle.cut.specs.declared.Cut.TheVariants.{Hidden}
+use Rattle.order.specs.OrderTables.{level_count, table_rows}
+use Rattle.order.specs.declared.table.OrderTable.{OrderTable}
+use Rattle.plan.specs.declared.channel.InputChannel.{InputChannel}
 use Rattle.plan.specs.declared.plan.Plan.{Plan}
 
 -- A plan by what it says. Of the functions only the values at its own levels and channels count.
@@ -22,17 +25,21 @@ pub record PlanModel : Type 0 where
   -- the cut of an input channel at a level
   pub cut : ℕ → ℕ → Cut
 
+-- what an order, input channels and levels of output channels say as the parts of a plan
+abbrev pub model_of : OrderTable → List InputChannel → List ℕ → PlanModel
+model_of order inputs outputs = record {
+  levels = level_count order;
+  inputs = length inputs;
+  outputs = length outputs;
+  below = among (level_count order) (table_entry (table_rows order));
+  input_level = λ c. (input_at inputs c).level;
+  output_level = λ c. slice_index outputs c;
+  cut = cut_entry inputs;
+}
+
 -- what a plan of the program says
 abbrev pub model : Plan → PlanModel
-model p = record {
-  levels = p.order.levels;
-  inputs = length p.inputs.items;
-  outputs = length p.outputs.items;
-  below = among p.order.levels (table_entry p.order.rows);
-  input_level = λ c. (input_at p.inputs.items c).level;
-  output_level = λ c. slice_index p.outputs.items c;
-  cut = cut_entry p.inputs.items;
-}
+model p = model_of p.order p.inputs.items p.outputs.items
 
 -- the plan that one begins with: one level, one channel each way, and a hidden cut
 pub record FirstPlan (P : PlanModel) : Type 0 where

@@ -6,6 +6,7 @@ use Rattle.event.specs.Questions.{AllYes, FirstNo}
 use Rattle.event.specs.Refusals.{refusal_number}
 use Rattle.event.specs.declared.Refusal.{Refusal}
 use Rattle.order.specs.Orders.{table_entry, among}
+use Rattle.order.specs.OrderTables.{level_count, table_rows}
 use Rattle.order.specs.declared.table.OrderTable.{OrderTable}
 use Rattle.plan.specs.Layout.{file_levels, file_inputs, file_outputs, file_end, file_below, input_levels_at, level_in, file_input_level, file_cut_place, cut_in, LawfulIn, plan_questions, Described}
 use Rattle.plan.specs.Plans.{model}
@@ -37,8 +38,8 @@ TableSays f rows = (a : ℕ) → a < 8 → RowSays f a (slice_index_or rows a []
 
 -- the order of a file's levels, as the file gives it
 pub record OrderOf (f : List ℕ) (t : OrderTable) : Type 0 where
-  pub levels : t.levels ≡ file_levels f
-  pub below : (a b : ℕ) → a < file_levels f → b < file_levels f → table_entry t.rows a b ≡ file_below f a b
+  pub levels : level_count t ≡ file_levels f
+  pub below : (a b : ℕ) → a < file_levels f → b < file_levels f → table_entry (table_rows t) a b ≡ file_below f a b
 
 -- the k-th of the levels that a file gives its channels
 abbrev pub file_level : List ℕ → ℕ → ℕ

@@ -1,5 +1,6 @@
 // A plan and its parts.
-ghost use Rattle.plan.specs.Tables.{LawfulInputs, LawfulOutputs};
+ghost use Rattle.order.specs.OrderTables.{level_count};
+ghost use Rattle.plan.specs.Channels.{LawfulInputs, LawfulOutputs};
 
 use crate::channel::InputChannel;
 use arrayvec::ArrayVec;
@@ -20,6 +21,6 @@ pub struct Plan {
     inputs: ArrayVec<InputChannel, 32>,
     // the level of each output channel
     outputs: ArrayVec<Level, 32>,
-    ghost lawful_inputs: { LawfulInputs order.levels inputs.items },
-    ghost lawful_outputs: { LawfulOutputs order.levels outputs.items },
+    ghost lawful_inputs: { LawfulInputs (level_count order) inputs.items },
+    ghost lawful_outputs: { LawfulOutputs (level_count order) outputs.items },
 }

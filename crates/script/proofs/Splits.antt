@@ -9,7 +9,7 @@ use Rattle.std.proofs.lemmas.List.{get_or-take, get_or-drop, get_or_append_left,
 use Rattle.std.proofs.lemmas.Bool.{and_parts, both_ways}
 use Rattle.event.specs.declared.Event.{Event}
 use Rattle.script.specs.Commands.{Reads}
-use Rattle.script.specs.Cursors.{IsReading}
+use Rattle.script.specs.Readings.{IsReading}
 use Rattle.script.specs.Fields.{NumberThen, SpacedThen, LastNumber, EventFields, LetterThen}
 use Rattle.script.specs.Tokens.{TokenAt, token_text}
 use Rattle.script.specs.declared.command.Command.{Command}

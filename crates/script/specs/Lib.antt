@@ -1,5 +1,5 @@
 pub mod Commands
-pub mod Cursors
+pub mod Readings
 pub mod Fields
 pub mod Scripts
 pub mod Tokens

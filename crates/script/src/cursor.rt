@@ -1,6 +1,6 @@
 // A place in a line, and how the line goes on there.
 ghost use Rattle.std.specs.Prelude.{◌≡◌, ℕ, ◌≤◌, ◌↔◌, List, ◌∷◌, length, drop, IsTrue};
-ghost use Rattle.script.specs.Cursors.{ReadsOn, IsReading};
+ghost use Rattle.script.specs.Readings.{ReadsOn, IsReading};
 ghost use Rattle.script.specs.Fields.{NumberThen, SpacedThen, LastNumber, LetterThen};
 
 use crate::number::value_of;

@@ -1,6 +1,6 @@
 // A line of a script as the command that it writes out.
 ghost use Rattle.script.specs.Commands.{Reads, LineReads, OneCommand};
-ghost use Rattle.script.specs.Cursors.{IsReading};
+ghost use Rattle.script.specs.Readings.{IsReading};
 ghost use Rattle.script.specs.Fields.{EventFields, LastNumber};
 
 use crate::command::Command;

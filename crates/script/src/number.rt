@@ -1,7 +1,7 @@
 // The numbers of a line: 0 to 65,535 in decimal, without a leading zero.
 ghost use Rattle.std.specs.Prelude.{◌≡◌, ◌<◌, ◌≤◌, true, length, decimal, IsTrue, ◌↔◌, slice_index};
 ghost use Rattle.std.specs.Str.{all_ascii_digits};
-ghost use Rattle.script.specs.Cursors.{IsReading};
+ghost use Rattle.script.specs.Readings.{IsReading};
 
 use std::str;
 
