@@ -56,6 +56,7 @@ pub enum Refusal {
 
 impl Refusal {
     // The number of the refusal, which a program prints.
+    #[tactic(auto, using(crate::proofs::Numbers::distinct_numbers))]
     pub fn number(self) -> u16
         ensures is { result ≡ refusal_number self }
         ensures distinct { DistinctNumbers }

@@ -8,7 +8,8 @@ use Rattle.order.specs.Orders.{table_entry}
 use Rattle.plan.specs.Plans.{PlanModel, model, LawfulPlan, carrying, sight, sights, Seen, SightLaws}
 use Rattle.plan.specs.declared.plan.Plan.{Plan}
 use Rattle.cut.proofs.Cutting.{cut_law}
-use Rattle.order.specs.OrderLaws.{among_inside, order_among}
+use Rattle.order.specs.OrderLaws.{among_inside}
+use Rattle.order.proofs.Ordering.{table_order_among}
 
 -- no plan exists without its properties
 pub plan_lawful : (p : Plan) → LawfulPlan (model p)
@@ -22,7 +23,7 @@ plan_lawful p =
       few_inputs = i.few;
       some_output = p.lawful_outputs.some;
       few_outputs = p.lawful_outputs.few;
-      ordered = order_among _ _ o.ordered;
+      ordered = table_order_among o;
       inside = λ a b h. among_inside o.levels (table_entry o.rows) a b h;
       release_level = i.release_level;
       input_level_in = i.level_in;
@@ -63,7 +64,7 @@ module _ (P : PlanModel) (lawful : LawfulPlan P) where
   list_twice l [] h = refl
   list_twice l (e ∷ es) h = again_then l e (sight P l e) (sights P l es) (twice l e h.0) (list_twice l es h.1)
 
-  sight_laws : SightLaws P
+  pub sight_laws : SightLaws P
   sight_laws = record { whole = whole; twice = twice; list_twice = list_twice }
 
 pub plan_sight_laws : (p : Plan) → SightLaws (model p)

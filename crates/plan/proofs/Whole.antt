@@ -110,10 +110,10 @@ module _ (f : List ℕ) (s : Sizes) (z : Sized f s) (t : OrderTable) (order : Or
       subst (λ n. PartialOrder n (file_below f)) order.levels
       (order_like t.levels (table_entry t.rows) (file_below f) (λ a b la lb. order.below a b (omega (arith, order.levels)) (omega (arith, order.levels))) t.ordered)
 
-  accepted : AllYes (plan_questions f)
+  pub accepted : AllYes (plan_questions f)
   accepted = (z.long, (z.wide, (z.exact, ((z.spare, z.padding), (ordered, (levels, (cuts, tt)))))))
 
-  described : Described f (model_of t inputs outputs)
+  pub described : Described f (model_of t inputs outputs)
   described = record {
     levels = order.levels;
     inputs = ins_length;
