@@ -1,5 +1,5 @@
 -- What a level sees of one event.
-use Rattle.std.specs.Prelude.{◌≡◌, ℕ, Some, None, Option, MatchOption}
+use Rattle.std.specs.Prelude.{◌≡◌, ℕ, Bool, true, false, not, Some, None, Option, MatchOption}
 use Rattle.event.specs.declared.Event.{Event}
 use Rattle.plan.specs.Plans.{PlanModel, sees_whole, sight}
 use Rattle.report.specs.declared.seen.SeenEvent.{SeenEvent}
@@ -9,3 +9,16 @@ abbrev pub IsSeen : PlanModel → ℕ → Event → Option SeenEvent → Type 0
 IsSeen P l e r =
     MatchOption r (sight P l e ≡ None)
     (λ s. (sight P l e ≡ Some s.event) × (s.whole ≡ sees_whole P l e.channel) × (s.event.channel ≡ e.channel))
+
+-- whether an event is seen whole, cut, or not at all, by what is seen of it
+abbrev pub is_whole : Option SeenEvent → Bool
+is_whole None = false
+is_whole (Some s) = s.whole
+
+abbrev pub is_cut : Option SeenEvent → Bool
+is_cut None = false
+is_cut (Some s) = not s.whole
+
+abbrev pub is_absent : Option SeenEvent → Bool
+is_absent None = true
+is_absent (Some s) = false

@@ -1,10 +1,11 @@
 // What the levels of a plan see of some events.
-ghost use Rattle.std.specs.Prelude.{◌≡◌, Some};
+ghost use Rattle.std.specs.Prelude.{Some};
 ghost use Rattle.plan.specs.Plans.{model};
-ghost use Rattle.report.specs.Reports.{whole_count, cut_count, absent_count, level_text, levels_text};
+ghost use Rattle.report.specs.Reports.{level_text, levels_text};
 ghost use Rattle.report.specs.Seen.{IsSeen};
 
 use crate::seen::SeenEvent;
+use crate::tally::Tally;
 use event::{Event, Level};
 use plan::plan::Plan;
 use std::fmt;
@@ -18,44 +19,13 @@ struct LevelView<'a> {
 }
 
 impl<'a> LevelView<'a> {
-    // What the level sees of an event. The three counts below are tests of it in chains of their own: one
-    // function over the test would be the chain itself.
+    // What the level sees of an event.
     fn seen(&self, event: Event) -> Option<SeenEvent>
         ensures { IsSeen (model self.now.plan.now) self.now.level event result }
     {
         let seen = self.plan.sight(self.level, event)?;
         let whole = self.plan.sees_whole(self.level, event.channel);
         Some(SeenEvent { event: seen, whole })
-    }
-
-    // How many of the events the level sees whole.
-    fn whole_count(&self) -> usize
-        ensures { result ≡ whole_count (model self.now.plan.now) self.now.level self.now.events.now }
-    {
-        self.events
-            .iter()
-            .filter(|event| self.seen(**event).is_some_and(|seen| seen.whole))
-            .count()
-    }
-
-    // How many of the events the level sees cut.
-    fn cut_count(&self) -> usize
-        ensures { result ≡ cut_count (model self.now.plan.now) self.now.level self.now.events.now }
-    {
-        self.events
-            .iter()
-            .filter(|event| self.seen(**event).is_some_and(|seen| !seen.whole))
-            .count()
-    }
-
-    // How many of the events the level does not see at all.
-    fn absent_count(&self) -> usize
-        ensures { result ≡ absent_count (model self.now.plan.now) self.now.level self.now.events.now }
-    {
-        self.events
-            .iter()
-            .filter(|event| self.seen(**event).is_none())
-            .count()
     }
 }
 
@@ -65,14 +35,15 @@ impl<'a> fmt::Display for LevelView<'a> {
     fn fmt<W: fmt::Write>(&self, f: &mut fmt::Formatter<W>) -> fmt::Result {
         let level = self.level;
         writeln!(f, "level {level} sees:")?;
+        let mut tally = Tally::new();
         for event in self.events {
-            if let Some(seen) = self.seen(*event) {
+            let seen = self.seen(*event);
+            tally = tally.with(seen);
+            if let Some(seen) = seen {
                 write!(f, "{seen}")?;
             }
         }
-        let whole = self.whole_count();
-        let cut = self.cut_count();
-        let absent = self.absent_count();
+        let Tally { whole, cut, absent } = tally;
         writeln!(
             f,
             "level {level}: {whole} whole, {cut} cut, {absent} not at all"

@@ -6,3 +6,4 @@ mod level;
 mod refused;
 mod seen;
 pub mod sights;
+mod tally;

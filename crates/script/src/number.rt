@@ -3,7 +3,8 @@ ghost use Rattle.std.specs.Prelude.{◌≡◌, ◌<◌, ◌≤◌, true, length,
 ghost use Rattle.std.specs.Str.{all_ascii_digits};
 ghost use Rattle.script.specs.Readings.{IsReading};
 
-use std::str;
+// No number of a script has more digits.
+const MOST_DIGITS: usize = 5;
 
 // Whether some digits are a zero before others.
 fn has_leading_zero(digits: &[u8]) -> bool
@@ -12,13 +13,18 @@ fn has_leading_zero(digits: &[u8]) -> bool
     matches!(digits, [b'0', _, ..])
 }
 
-// The number that a row of digits writes out; nothing for a leading zero or a number too large.
+// The number that a row of digits writes out; nothing for a leading zero or a number too large. This is a loop:
+// `str::parse` wants text, and reading a line by it takes twice the time.
 pub(crate) fn value_of(digits: &[u8]) -> Option<u16>
     requires { all_ascii_digits digits.now ≡ true }
     ensures { IsReading (λ v. (v ≤ 65535) × (digits.now ≡ decimal v)) result }
 {
-    if has_leading_zero(digits) {
+    if !(1..=MOST_DIGITS).contains(&digits.len()) || has_leading_zero(digits) {
         return None;
     }
-    str::from_utf8(digits).ok()?.parse().ok()
+    let mut value: u32 = 0;
+    for digit in digits {
+        value = 10 * value + u32::from(*digit - b'0');
+    }
+    u16::try_from(value).ok()
 }

@@ -1,17 +1,31 @@
-use Rattle.std.proofs.Common.{◌≡◌, rules}
-use Rattle.std.specs.Str.Parse.{ParsesUnsigned}
+use Rattle.std.proofs.Common.{◌≡◌, ◌<◌, length, rules}
 use Rattle.std.proofs.lemmas.Bool.{both_ways}
-use Rattle.script.proofs.Decimals.{leading_zero, digits_utf8, parse_decimal}
+use Rattle.std.proofs.lemmas.List.{take_all}
+use Rattle.script.proofs.Decimals.{reading, digit_in, other_length, leading_zero, reading_more, reading_below, read_as}
 use Rattle.script.proofs.number.value_of.Goals as goal
+use Rattle.script.proofs.number.value_of.Goals.{then-not-contains-via-then-not-contains, then-not-contains-via-else-not-contains+then-has_leading_zero}
 
-pub returns-then-has_leading_zero : goal.returns-then-has_leading_zero
-returns-then-has_leading_zero c = leading_zero _ (c.has_leading_zero.ensures.0 c.if-has_leading_zero.true)
+pub returns-then-not-contains : goal.returns-then-not-contains
+returns-then-not-contains c =
+    elim c.then-not-contains.branch [
+      | then-not-contains-via-then-not-contains w ↦ other_length _ (search rules)
+      | then-not-contains-via-else-not-contains+then-has_leading_zero w ↦ leading_zero _ (w.has_leading_zero.ensures.0 w.if-has_leading_zero.true)
+    ]
 
-pub returns-in_err-ok : goal.returns-in_err-ok
-returns-in_err-ok c = let utf8 = digits_utf8 c.args.digits.now c.requires in search rules
+pub overflow_mul-value : goal.overflow_mul-value
+overflow_mul-value c = search (rules, reading_below)
+
+pub overflow_sub-digit : goal.overflow_sub-digit
+overflow_sub-digit c = search (rules, digit_in)
+
+pub overflow_add-value : goal.overflow_add-value
+overflow_add-value c = search (rules, reading_below, digit_in)
+
+pub loop-digit-preserved : goal.loop-digit-preserved
+loop-digit-preserved c = search (rules, reading_more)
 
 pub returns : goal.returns
 returns c =
-    let same : c.in_ok-ok.field-0.now ≡ c.args.digits.now = search rules in
-    let parsed : ParsesUnsigned 16 10 c.args.digits.now c.parse.result = rw same at c.parse.ensures.value.0 in
-    rw c.ok-2.ensures.value (parse_decimal c.args.digits.now c.requires c.parse.result parsed (λ zero_first. both_ways _ c.if-has_leading_zero.false (c.has_leading_zero.ensures.1 zero_first)))
+    let some : 0 < length c.args.digits.now = search rules in
+    let read : c.loop-digit.value ≡ reading c.args.digits.now = search (rules, take_all) in
+    rw c.ok.ensures.value (read_as _ c.requires c.try_from.result _ some (λ zero_first. both_ways _ c.if-has_leading_zero.false (c.has_leading_zero.ensures.1 zero_first)) read c.try_from.ensures)
