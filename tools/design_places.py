@@ -73,7 +73,7 @@ def where(f):
 # 1: numbers for kinds or refusals, and flags beside a value
 show("1a", "functions with match arms to or from a number", (
     where(f) for f in FUNCTIONS
-    if any(re.search(r"=> \d+,$|^\s*\d+( if .*)? =>", line) for line in f[6])))
+    if any(re.search(r"=> \d+,$|^\s*\(?\d+(, \w+\))?( if .*)? =>", line) for line in f[6])))
 show("1b", "own enums", lines_like(r"^\s*(pub(\(crate\))? )?enum "))
 show("1c", "fields that are flags", lines_like(r"^\s*(pub(\(crate\))? )?\w+: bool,"))
 
