@@ -10,15 +10,17 @@ IsSeen P l e r =
     MatchOption r (sight P l e ≡ None)
     (λ s. (sight P l e ≡ Some s.event) × (s.whole ≡ sees_whole P l e.channel) × (s.event.channel ≡ e.channel))
 
--- whether an event is seen whole, cut, or not at all, by what is seen of it
+-- whether an event is seen whole, by what is seen of it
 abbrev pub is_whole : Option SeenEvent → Bool
 is_whole None = false
 is_whole (Some s) = s.whole
 
+-- whether it is seen cut
 abbrev pub is_cut : Option SeenEvent → Bool
 is_cut None = false
 is_cut (Some s) = not s.whole
 
+-- whether it is not seen at all
 abbrev pub is_absent : Option SeenEvent → Bool
 is_absent None = true
 is_absent (Some s) = false
